@@ -58,7 +58,7 @@ fn main(rt: HostRuntime) -> Result<()> {
     let part = Part::new(read_stl(alloc, &text, Snap::Nearest, Unit::Hundredth)?.tris);
 
     let start = Instant::now(&rt)?;
-    let sorted = SortedPart::new(alloc, &part).ok().context("out of memory")?;
+    let sorted = SortedPart::new(alloc, part).ok().context("out of memory")?;
     let cells_time = start.elapsed(&rt)?;
 
     let start = Instant::now(&rt)?;

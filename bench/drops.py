@@ -21,7 +21,7 @@ use std::thread::Threads;
 pub fn call<R: Threads + Sync>(
     rt: &R,
     alloc: Global,
-    part: &SortedPart<'_>,
+    part: &SortedPart,
     task: Task,
 ) -> Result<Vec<i32>>
     requires tool_ok { IsTool task.tool }
@@ -36,8 +36,7 @@ pub fn call<R: Threads + Sync>(
     let crew = Threaded { rt, workers: 1 };
     crew.drop_map(
         alloc,
-        part.part(),
-        part.cells(),
+        part,
         &tool,
         &lattice,
         height,

@@ -1,5 +1,5 @@
 #!/usr/bin/env python3
-"""Compares include/camtool.h with what mill_c exports, of mill_c_data's types: each function with its arguments,
+"""Compares include/camtool.h with what mill_ffi exports, of mill_ffi_data's types: each function with its arguments,
 each struct with its fields, each status and the limit. It prints what differs, and ends with 0 where nothing does.
 
 Pass the exported symbols, a line each, on standard input (nm -g --defined-only).
@@ -9,8 +9,8 @@ import re
 import sys
 
 ROOT = os.path.dirname(os.path.dirname(os.path.abspath(__file__)))
-CALLS = os.path.join(ROOT, "crates", "mill_c", "src")
-TYPES = os.path.join(ROOT, "crates", "mill_c_data", "src")
+CALLS = os.path.join(ROOT, "crates", "mill_ffi", "src")
+TYPES = os.path.join(ROOT, "crates", "mill_ffi_data", "src")
 
 
 def text_of(*path):

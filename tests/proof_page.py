@@ -12,7 +12,7 @@ import re
 PAGE = os.path.join("docs", "PROOF.md")
 MARK = "<!-- tests/believed --proof writes all that is below this line. -->"
 SAFE = ("mill_verify", "Claims", "CutsSafely")
-ACCEPTED = ("mill_run", "Headline", "AcceptsSafely")
+ACCEPTED = ("mill_answer", "Verify", "AcceptsSafely")
 # The names that a reader of the page meets in place of "declared" modules: a struct or an enum of the code.
 STRUCT = re.compile(r"declared\.([\w.]+?)\.(\w+)(?:\.TheVariants)?$")
 

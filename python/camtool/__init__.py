@@ -695,7 +695,7 @@ def _overlap(one, other):
 def _loaded():
     """The shared library, with the kinds of its calls' arguments."""
     root = os.path.dirname(os.path.dirname(os.path.dirname(os.path.abspath(__file__))))
-    built = os.path.join(root, "crates", "mill_c", "out", "libcamtool.so")
+    built = os.path.join(root, "crates", "mill_ffi", "out", "libcamtool.so")
     path = os.environ.get("CAMTOOL_LIBRARY", built)
     try:
         library = ctypes.CDLL(path)

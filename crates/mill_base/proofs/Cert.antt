@@ -1,6 +1,6 @@
 -- Inequalities over ℤ by a certificate: a sum of products of hypotheses, squares and numerals that is the wanted polynomial.
 use Rattle.std.proofs.Common.{◌≡◌, ℕ, suc, zero, Bool, true, false, List, [], ◌∷◌, refl, arith}
-use lib.IntN.{ℤ, pos, negsuc, ◌-ℤ◌, ◌*ℤ◌}
+use lib.IntN.{ℤ, pos, negsuc, ◌*ℤ◌}
 use lib.Signed.{◌<ℤ◌, ◌≤ℤ◌, lt_z}
 use Rattle.std.proofs.lemmas.Int.{ints}
 use Rattle.mill_base.proofs.Integers.{sq-ℤ, mul_nonneg-ℤ}
@@ -98,13 +98,7 @@ refute ρ hs c n g e =
     below : (x : ℤ) → (pos 0) ≤ℤ x → x ≡ negsuc n → ⊥
     below x h e = omega (arith, ints)
 
--- an order, from a certificate of it or by refuting its opposite
-pub prove_le : (ρ : List ℤ) (hs : List H) (a b : E) (c : C) → Given ρ hs → all_zero (norm (Sub (Sub b a) (value hs c))) ≡ true → den ρ a ≤ℤ den ρ b
-prove_le ρ hs a b c g e = from (den ρ a) (den ρ b) (den ρ (value hs c)) (value_is ρ hs g c) (ring ρ (Sub b a) (value hs c) e)
-  where
-    from : (x y z : ℤ) → (pos 0) ≤ℤ z → y -ℤ x ≡ z → x ≤ℤ y
-    from x y z p q = omega (arith, ints)
-
+-- an order, by refuting its opposite
 pub by_opposite_le : (x y : ℤ) → (y <ℤ x → ⊥) → x ≤ℤ y
 by_opposite_le x y f = by (lt_z y x) refl
   where

@@ -54,10 +54,6 @@ earlier p q w r hq hw hr hn (l ∷ ls) n t = (
   earlier p q w r hq hw hr hn ls n.1 t.1,
 )
 
-at_once : (ls : List Line) → NowFine ls → ThenFine (pos 0) (pos 1) ls
-at_once [] n = tt
-at_once (l ∷ ls) n = (let e = n.0 in omega (arith, ints), at_once ls n.1)
-
 below_zero : (r : ℤ) → r <ℤ pos 0 → (pos 0) <ℤ (pos 0 -ℤ r)
 below_zero r h = omega (arith, ints)
 

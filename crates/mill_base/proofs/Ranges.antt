@@ -5,10 +5,9 @@ use Rattle.std.proofs.Common.{refl}
 use mir.Syntax.{w32}
 use Rattle.mill_base.specs.Numbers.{Within}
 use Rattle.mill_base.specs.Units.{greatest_of}
-use Rattle.mill_base.specs.Ranges.{IsInRange, TriInRange, MoveInRange, TrisInRange, MovesInRange, IsInUnitRange, TriInUnitRange, MoveInUnitRange, TrisInUnitRange, MovesInUnitRange}
+use Rattle.mill_base.specs.Ranges.{IsInRange, MoveInRange, MovesInRange, IsInUnitRange, MoveInUnitRange, MovesInUnitRange}
 use Rattle.mill_base.specs.declared.limits.TheConstants.{MAX_COORDINATE}
 use Rattle.mill_base.specs.declared.points.Pt3.{Pt3}
-use Rattle.mill_base.specs.declared.points.Tri.{Tri}
 use Rattle.mill_base.specs.declared.motion.Move.{Move}
 use Rattle.mill_base.specs.declared.unit.Unit.{Unit}
 use Rattle.mill_base.specs.declared.unit.Unit.TheVariants.{Hundredth, Thousandth}
@@ -25,15 +24,8 @@ pub in_range_of_unit : (unit : Unit) (p : Pt3) → IsInUnitRange unit p → IsIn
 in_range_of_unit unit p h =
     record { x_ok = within_of_unit unit p.x h.x_ok; y_ok = within_of_unit unit p.y h.y_ok; z_ok = within_of_unit unit p.z h.z_ok }
 
-pub tri_of_unit : (unit : Unit) (tri : Tri) → TriInUnitRange unit tri → TriInRange tri
-tri_of_unit unit tri h =
-    record { a_ok = in_range_of_unit unit tri.a h.a_ok; b_ok = in_range_of_unit unit tri.b h.b_ok; c_ok = in_range_of_unit unit tri.c h.c_ok }
-
 pub move_of_unit : (unit : Unit) (move : Move) → MoveInUnitRange unit move → MoveInRange move
 move_of_unit unit move h = record { from_ok = in_range_of_unit unit move.from h.from_ok; to_ok = in_range_of_unit unit move.to h.to_ok }
-
-pub tris_of_unit : (unit : Unit) (tris : List Tri) → TrisInUnitRange unit tris → TrisInRange tris
-tris_of_unit unit tris h = λ tri member. tri_of_unit unit tri (h tri member)
 
 pub moves_of_unit : (unit : Unit) (moves : List Move) → MovesInUnitRange unit moves → MovesInRange moves
 moves_of_unit unit moves h = λ move member. move_of_unit unit move (h move member)

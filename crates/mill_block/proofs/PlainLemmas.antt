@@ -32,7 +32,7 @@ use Rattle.mill_block.specs.Numbers.{axis_units, signed, whole_of}
 use Rattle.mill_block.specs.Profile.{entry_in, entry_of, g_entry, is_same_group, is_tool, may_repeat, row}
 use Rattle.mill_block.specs.Lines.{after_line, after_words, has_frame, is_percent, line_begun}
 use Rattle.mill_block.specs.Said.{after_entry, after_word, group_of, has_axis, noted, nothing_said, said_from}
-use Rattle.mill_block.specs.inner.PlainMoves.{Goes, IsAxis, IsCapital, IsEnd, IsFree, IsMotion, IsReady, LineMovesTo, MovesTo, ReadTo, Says, TakenTo, made_plain, one_if, words_in}
+use Rattle.mill_block.specs.inner.PlainMoves.{AreFree, Goes, IsAxis, IsCapital, IsEnd, IsFree, IsMotion, IsReady, LineMovesTo, MovesTo, ReadTo, Says, TakenTo, made_plain, one_if, words_in}
 use Rattle.mill_block.proofs.SaidLemmas.{row-x, row-y, row-z, said_from-end, said_from-first, said_from-next, said_from-none}
 
 -- ---- numbers
@@ -97,74 +97,62 @@ named unit line (Some units) None axis = absurd axis
 pub named-now : (unit : LengthUnit) (line : ℕ) (units : Option ℤ) (n : Num) → IsAxis unit line units (Some n) → is_some units ≡ true
 named-now unit line units n axis = sym (named unit line units (Some n) axis)
 
+-- what a word of a group leaves free: a part that the line has now, or one of another group
+abbrev Leaves : Bool → Bool → ℕ → ℕ → Group → Type 0
+Leaves had now letter number g = (now ≡ true) ⊎ ((now ≡ had) × (is_same_group (record { letter = letter; number = number }) g ≡ false))
+
+left-free : (had now : Bool) (letter number : ℕ) (groups : List Group) (g : Group) → Leaves had now letter number g → IsFree had letter number groups → IsFree now letter number (groups ++ g ∷ [])
+left-free had now letter number groups g (inl has) free = not-free now letter number (groups ++ g ∷ []) has
+left-free had now letter number groups g (inr (same, other)) free = rw same (still-free had letter number groups g other free)
+
+record AllLeft (old new : PlainLine) (g : Group) : Type 0 where
+  x : Leaves (is_some old.x) (is_some new.x) 88 0 g
+  y : Leaves (is_some old.y) (is_some new.y) 89 0 g
+  z : Leaves (is_some old.z) (is_some new.z) 90 0 g
+  motion : Leaves (is_some old.kind) (is_some new.kind) 71 1 g
+  feed : Leaves old.feed new.feed 70 0 g
+
+all-free : (old new : PlainLine) (groups : List Group) (g : Group) → AllLeft old new g → AreFree old groups → AreFree new (groups ++ g ∷ [])
+all-free old new groups g left free = record {
+  x = left-free (is_some old.x) (is_some new.x) 88 0 groups g left.x free.x;
+  y = left-free (is_some old.y) (is_some new.y) 89 0 groups g left.y free.y;
+  z = left-free (is_some old.z) (is_some new.z) 90 0 groups g left.z free.z;
+  motion = left-free (is_some old.kind) (is_some new.kind) 71 1 groups g left.motion free.motion;
+  feed = left-free old.feed new.feed 70 0 groups g left.feed free.feed;
+}
+
 pub goes-x : (unit : LengthUnit) (line : ℕ) (positioned : Bool) (w : Word) (s : Said) (plain : PlainLine) (x : Option ℤ) → w.letter ≡ 88 → plain.x ≡ None
     → IsAxis unit line x (Some w.num) → Says unit line plain s → Goes unit line positioned w s (record plain { x = x })
-goes-x unit line positioned w s plain x letter new axis says = record {
-  said = record s { groups = s.groups ++ record { letter = 88; number = 0 } ∷ []; x = Some w.num };
-  taken = taken-by line positioned s w (row 0 X) (record { letter = 88; number = 0 }) (row-x w letter) (rw letter refl) refl refl (says.free.x (rw new refl));
-  says = record {
-    x = axis;
-    y = says.y;
-    z = says.z;
-    mode = says.mode;
-    millimetres = says.millimetres;
-    absolute = says.absolute;
-    ends = says.ends;
-    free = record {
-      x = not-free (is_some x) 88 0 (s.groups ++ record { letter = 88; number = 0 } ∷ []) (named-now unit line x w.num axis);
-      y = still-free (is_some plain.y) 89 0 s.groups (record { letter = 88; number = 0 }) refl says.free.y;
-      z = still-free (is_some plain.z) 90 0 s.groups (record { letter = 88; number = 0 }) refl says.free.z;
-      motion = still-free (is_some plain.kind) 71 1 s.groups (record { letter = 88; number = 0 }) refl says.free.motion;
-      feed = still-free plain.feed 70 0 s.groups (record { letter = 88; number = 0 }) refl says.free.feed;
-    };
-  };
-}
+goes-x unit line positioned w s plain x letter new axis says =
+    let g : Group = record { letter = 88; number = 0 } in
+    let left : AllLeft plain (record plain { x = x }) g = record { x = inl (named-now unit line x w.num axis); y = inr (refl, refl); z = inr (refl, refl); motion = inr (refl, refl); feed = inr (refl, refl) } in
+    record {
+      said = record s { groups = s.groups ++ g ∷ []; x = Some w.num };
+      taken = taken-by line positioned s w (row 0 X) g (row-x w letter) (rw letter refl) refl refl (says.free.x (rw new refl));
+      says = record { x = axis; y = says.y; z = says.z; mode = says.mode; millimetres = says.millimetres; absolute = says.absolute; ends = says.ends; free = all-free plain (record plain { x = x }) s.groups g left says.free };
+    }
 
 pub goes-y : (unit : LengthUnit) (line : ℕ) (positioned : Bool) (w : Word) (s : Said) (plain : PlainLine) (y : Option ℤ) → w.letter ≡ 89 → plain.y ≡ None
     → IsAxis unit line y (Some w.num) → Says unit line plain s → Goes unit line positioned w s (record plain { y = y })
-goes-y unit line positioned w s plain y letter new axis says = record {
-  said = record s { groups = s.groups ++ record { letter = 89; number = 0 } ∷ []; y = Some w.num };
-  taken = taken-by line positioned s w (row 0 Y) (record { letter = 89; number = 0 }) (row-y w letter) (rw letter refl) refl refl (says.free.y (rw new refl));
-  says = record {
-    x = says.x;
-    y = axis;
-    z = says.z;
-    mode = says.mode;
-    millimetres = says.millimetres;
-    absolute = says.absolute;
-    ends = says.ends;
-    free = record {
-      x = still-free (is_some plain.x) 88 0 s.groups (record { letter = 89; number = 0 }) refl says.free.x;
-      y = not-free (is_some y) 89 0 (s.groups ++ record { letter = 89; number = 0 } ∷ []) (named-now unit line y w.num axis);
-      z = still-free (is_some plain.z) 90 0 s.groups (record { letter = 89; number = 0 }) refl says.free.z;
-      motion = still-free (is_some plain.kind) 71 1 s.groups (record { letter = 89; number = 0 }) refl says.free.motion;
-      feed = still-free plain.feed 70 0 s.groups (record { letter = 89; number = 0 }) refl says.free.feed;
-    };
-  };
-}
+goes-y unit line positioned w s plain y letter new axis says =
+    let g : Group = record { letter = 89; number = 0 } in
+    let left : AllLeft plain (record plain { y = y }) g = record { x = inr (refl, refl); y = inl (named-now unit line y w.num axis); z = inr (refl, refl); motion = inr (refl, refl); feed = inr (refl, refl) } in
+    record {
+      said = record s { groups = s.groups ++ g ∷ []; y = Some w.num };
+      taken = taken-by line positioned s w (row 0 Y) g (row-y w letter) (rw letter refl) refl refl (says.free.y (rw new refl));
+      says = record { x = says.x; y = axis; z = says.z; mode = says.mode; millimetres = says.millimetres; absolute = says.absolute; ends = says.ends; free = all-free plain (record plain { y = y }) s.groups g left says.free };
+    }
 
 pub goes-z : (unit : LengthUnit) (line : ℕ) (positioned : Bool) (w : Word) (s : Said) (plain : PlainLine) (z : Option ℤ) → w.letter ≡ 90 → plain.z ≡ None
     → IsAxis unit line z (Some w.num) → Says unit line plain s → Goes unit line positioned w s (record plain { z = z })
-goes-z unit line positioned w s plain z letter new axis says = record {
-  said = record s { groups = s.groups ++ record { letter = 90; number = 0 } ∷ []; z = Some w.num };
-  taken = taken-by line positioned s w (row 0 Z) (record { letter = 90; number = 0 }) (row-z w letter) (rw letter refl) refl refl (says.free.z (rw new refl));
-  says = record {
-    x = says.x;
-    y = says.y;
-    z = axis;
-    mode = says.mode;
-    millimetres = says.millimetres;
-    absolute = says.absolute;
-    ends = says.ends;
-    free = record {
-      x = still-free (is_some plain.x) 88 0 s.groups (record { letter = 90; number = 0 }) refl says.free.x;
-      y = still-free (is_some plain.y) 89 0 s.groups (record { letter = 90; number = 0 }) refl says.free.y;
-      z = not-free (is_some z) 90 0 (s.groups ++ record { letter = 90; number = 0 } ∷ []) (named-now unit line z w.num axis);
-      motion = still-free (is_some plain.kind) 71 1 s.groups (record { letter = 90; number = 0 }) refl says.free.motion;
-      feed = still-free plain.feed 70 0 s.groups (record { letter = 90; number = 0 }) refl says.free.feed;
-    };
-  };
-}
+goes-z unit line positioned w s plain z letter new axis says =
+    let g : Group = record { letter = 90; number = 0 } in
+    let left : AllLeft plain (record plain { z = z }) g = record { x = inr (refl, refl); y = inr (refl, refl); z = inl (named-now unit line z w.num axis); motion = inr (refl, refl); feed = inr (refl, refl) } in
+    record {
+      said = record s { groups = s.groups ++ g ∷ []; z = Some w.num };
+      taken = taken-by line positioned s w (row 0 Z) g (row-z w letter) (rw letter refl) refl refl (says.free.z (rw new refl));
+      says = record { x = says.x; y = says.y; z = axis; mode = says.mode; millimetres = says.millimetres; absolute = says.absolute; ends = says.ends; free = all-free plain (record plain { z = z }) s.groups g left says.free };
+    }
 
 -- the rows of the other letters, 70 and 71
 row-feed : (w : Word) → w.letter ≡ 70 → entry_of w ≡ Some (row 0 Nothing)
@@ -177,50 +165,26 @@ row-motion w kind e h = rw (e, h) refl
 
 pub goes-feed : (unit : LengthUnit) (line : ℕ) (positioned : Bool) (w : Word) (s : Said) (plain : PlainLine) (had : Bool) → w.letter ≡ 70 → plain.feed ≡ false
     → had ≡ true → Says unit line plain s → Goes unit line positioned w s (record plain { feed = had })
-goes-feed unit line positioned w s plain had letter new has says = record {
-  said = record s { groups = s.groups ++ record { letter = 70; number = 0 } ∷ [] };
-  taken = taken-by line positioned s w (row 0 Nothing) (record { letter = 70; number = 0 }) (row-feed w letter) (rw letter refl) refl refl (says.free.feed new);
-  says = record {
-    x = says.x;
-    y = says.y;
-    z = says.z;
-    mode = says.mode;
-    millimetres = says.millimetres;
-    absolute = says.absolute;
-    ends = says.ends;
-    free = record {
-      x = still-free (is_some plain.x) 88 0 s.groups (record { letter = 70; number = 0 }) refl says.free.x;
-      y = still-free (is_some plain.y) 89 0 s.groups (record { letter = 70; number = 0 }) refl says.free.y;
-      z = still-free (is_some plain.z) 90 0 s.groups (record { letter = 70; number = 0 }) refl says.free.z;
-      motion = still-free (is_some plain.kind) 71 1 s.groups (record { letter = 70; number = 0 }) refl says.free.motion;
-      feed = not-free had 70 0 (s.groups ++ record { letter = 70; number = 0 } ∷ []) has;
-    };
-  };
-}
+goes-feed unit line positioned w s plain had letter new has says =
+    let g : Group = record { letter = 70; number = 0 } in
+    let left : AllLeft plain (record plain { feed = had }) g = record { x = inr (refl, refl); y = inr (refl, refl); z = inr (refl, refl); motion = inr (refl, refl); feed = inl has } in
+    record {
+      said = record s { groups = s.groups ++ g ∷ [] };
+      taken = taken-by line positioned s w (row 0 Nothing) g (row-feed w letter) (rw letter refl) refl refl (says.free.feed new);
+      says = record { x = says.x; y = says.y; z = says.z; mode = says.mode; millimetres = says.millimetres; absolute = says.absolute; ends = says.ends; free = all-free plain (record plain { feed = had }) s.groups g left says.free };
+    }
 
 pub goes-motion : (unit : LengthUnit) (line : ℕ) (positioned : Bool) (w : Word) (s : Said) (plain : PlainLine) (kind : Option Kind) → w.letter ≡ 71 → plain.kind ≡ None
     → IsMotion w.num kind → Says unit line plain s → Goes unit line positioned w s (record plain { kind = kind })
 goes-motion unit line positioned w s plain None letter new motion says = absurd motion
-goes-motion unit line positioned w s plain (Some kind) letter new motion says = record {
-  said = record s { groups = s.groups ++ record { letter = 71; number = 1 } ∷ []; mode = Some (On kind) };
-  taken = taken-by line positioned s w (row 1 (Motion (On kind))) (record { letter = 71; number = 1 }) (row-motion w kind letter motion) (rw letter refl) refl refl (says.free.motion (rw new refl));
-  says = record {
-    x = says.x;
-    y = says.y;
-    z = says.z;
-    mode = refl;
-    millimetres = says.millimetres;
-    absolute = says.absolute;
-    ends = says.ends;
-    free = record {
-      x = still-free (is_some plain.x) 88 0 s.groups (record { letter = 71; number = 1 }) refl says.free.x;
-      y = still-free (is_some plain.y) 89 0 s.groups (record { letter = 71; number = 1 }) refl says.free.y;
-      z = still-free (is_some plain.z) 90 0 s.groups (record { letter = 71; number = 1 }) refl says.free.z;
-      motion = not-free true 71 1 (s.groups ++ record { letter = 71; number = 1 } ∷ []) refl;
-      feed = still-free plain.feed 70 0 s.groups (record { letter = 71; number = 1 }) refl says.free.feed;
-    };
-  };
-}
+goes-motion unit line positioned w s plain (Some kind) letter new motion says =
+    let g : Group = record { letter = 71; number = 1 } in
+    let left : AllLeft plain (record plain { kind = Some kind }) g = record { x = inr (refl, refl); y = inr (refl, refl); z = inr (refl, refl); motion = inl refl; feed = inr (refl, refl) } in
+    record {
+      said = record s { groups = s.groups ++ g ∷ []; mode = Some (On kind) };
+      taken = taken-by line positioned s w (row 1 (Motion (On kind))) g (row-motion w kind letter motion) (rw letter refl) refl refl (says.free.motion (rw new refl));
+      says = record { x = says.x; y = says.y; z = says.z; mode = refl; millimetres = says.millimetres; absolute = says.absolute; ends = says.ends; free = all-free plain (record plain { kind = Some kind }) s.groups g left says.free };
+    }
 
 -- ---- the line's end
 

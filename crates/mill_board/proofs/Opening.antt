@@ -19,14 +19,6 @@ length-map_some : {A : Type 0} → (xs : List A) → length (map some xs) ≡ le
 length-map_some [] = refl
 length-map_some (x ∷ xs) = let t = length-map_some xs in omega (arith, t)
 
--- a piece with no turn done is as its turns leave it
-pub started_true : {W P : Type 0} (M : Means W P) (work : W) (n : ℕ) → n < M.pieces work → M.first work n ≤ M.limit work n → M.IsAt work n (M.first work n) (M.start work n) → IsTrueHeld M work (started M work n)
-started_true M work n under span here = record {
-  number = under;
-  going = λ e. (omega arith, span, (λ u lo hi. absurd (omega arith)), here);
-  failed = λ e. absurd (cc);
-}
-
 module _ {W P : Type 0} (M : Means W P) (work : W) where
   pub starts_len : (n k : ℕ) → length (starts M work n k) ≡ k
   starts_len n zero = refl

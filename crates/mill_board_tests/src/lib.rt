@@ -11,5 +11,3 @@ mod runs;
 mod seats;
 #[cfg(test)]
 mod shared;
-#[cfg(test)]
-mod tables;

@@ -1,8 +1,8 @@
 //! The machine of events: what comes of each, and the state that they leave.
 ghost use Rattle.std.specs.Prelude.{◌≡◌, length, IfOk};
 
-use crate::tables::{add, halves};
 use mill_sched::{Core, Event};
+use mill_tables::{add_with_comma, halves};
 use std::alloc::Global;
 use std::process::Abort;
 use std::test::Fail;
@@ -77,7 +77,7 @@ fn told_step(alloc: Global, core: &mut Core, event: Event) -> Result<String, Fai
 fn told_steps(alloc: Global, core: &mut Core, events: &[Event]) -> Result<String, Fail> {
     let mut told = String::new(alloc);
     for event in events {
-        add(&mut told, &told_step(alloc, core, *event)?)?;
+        add_with_comma(&mut told, &told_step(alloc, core, *event)?)?;
     }
     Ok(told)
 }

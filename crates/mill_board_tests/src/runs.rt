@@ -1,7 +1,7 @@
 //! A small work, what is counted of its turns, and what is told of its pieces.
-use crate::tables::add;
 use mill_base::WantOfMemory;
 use mill_board::{Closed, Held, Work};
+use mill_tables::add_with_comma;
 use std::alloc::Global;
 use std::sync::atomic::Ordering::SeqCst;
 use std::sync::atomic::{AtomicBool, AtomicU64};
@@ -156,7 +156,7 @@ pub(crate) fn told_closed(
     let made = watch.made.load(SeqCst);
     let mut told = format!(in alloc; "made {made}, least {}", closed.least)?;
     for held in closed.pieces.iter() {
-        add(&mut told, &told_piece(alloc, held, most)?)?;
+        add_with_comma(&mut told, &told_piece(alloc, held, most)?)?;
     }
     Ok(told)
 }

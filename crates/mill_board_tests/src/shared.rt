@@ -1,7 +1,7 @@
 //! Works that threads share.
 use crate::runs::{Run, Runs, TURNS, Watch, told_closed};
-use crate::tables::halves;
 use mill_board::{Closed, run_all};
+use mill_tables::{halves, numbers};
 use std::alloc::Global;
 use std::process::Abort;
 use std::sync::atomic::Ordering::SeqCst;
@@ -36,14 +36,6 @@ fn told<R: Threads + Sync>(
         "some"
     };
     Ok(format!(in alloc; "{pieces}, {turns} failed")?)
-}
-
-fn numbers(alloc: Global, words: &str) -> Result<Vec<u64>, Fail> {
-    let mut numbers = Vec::new(alloc);
-    for word in words.split_whitespace() {
-        numbers.push(word.parse::<u64>()?)?;
-    }
-    Ok(numbers)
 }
 
 fn told_row<R: Threads + Sync>(rt: &R, alloc: Global, given: &str) -> Result<String, Fail> {

@@ -1,7 +1,7 @@
 -- Counting boxes in cells.
-use Rattle.std.proofs.Common.{◌≡◌, ℕ, zero, suc, ◌+◌, ◌*◌, ◌^◌, ◌<◌, ◌≤◌, true, false, List, length, set, replicate, refl, sym, subst, ap, ◌∙◌, arith}
+use Rattle.std.proofs.Common.{◌≡◌, ℕ, zero, suc, ◌+◌, ◌*◌, ◌^◌, ◌<◌, ◌≤◌, true, false, List, length, set, refl, sym, subst, ap, ◌∙◌, arith}
 use Rattle.std.specs.Prelude.{slice_index}
-use Rattle.std.proofs.lemmas.List.{length-set, get_or-set_same, get_or-set_other, length-replicate, get_or-replicate}
+use Rattle.std.proofs.lemmas.List.{length-set, get_or-set_same, get_or-set_other}
 use Rattle.mill_base.specs.declared.points.Box2.{Box2}
 use Rattle.mill_cells.specs.Boxes.{box_at}
 use Rattle.mill_cells.specs.Frames.{covers, cell_count}
@@ -10,17 +10,6 @@ use Rattle.mill_cells.specs.inner.Placing.{IsCounted, IsCounting, sum_before, Ar
 use Rattle.mill_cells.specs.declared.frame.Frame.{Frame}
 use Rattle.mill_cells.proofs.Passing.{length-passing_yes, length-passing_no, length-passing}
 use Rattle.mill_cells.proofs.UpTo.{skip, next_box, one_cell}
-
--- nothing is counted yet
-pub none_counted : (f : Frame) (boxes : List Box2) → IsCounting f boxes (replicate (cell_count f + 1) 0) 0 0
-none_counted f boxes = record {
-  long = length-replicate (cell_count f + 1) 0;
-  first = get_or-replicate (cell_count f + 1) 0 0 0 (omega arith);
-  upto = record {
-    before = λ k less within. absurd (omega arith);
-    after = λ k more within. get_or-replicate (cell_count f + 1) (k + 1) 0 0 (omega arith);
-  };
-}
 
 -- over cells that the box doesn't cover
 pub count_skips : (f : Frame) (boxes : List Box2) (starts : List ℕ) (m t u : ℕ) → t ≤ u → ((k : ℕ) → t ≤ k → k < u → covers f (box_at boxes m) k ≡ false)

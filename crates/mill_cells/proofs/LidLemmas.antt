@@ -1,10 +1,8 @@
 -- The lids of cells.
-use Rattle.std.proofs.Common.{◌≡◌, ℕ, ◌+◌, ◌-◌, ◌<◌, ◌≤◌, List, [], ◌∷◌, ◌++◌, length, get_or, take, refl, sym, subst, inl, inr, arith}
+use Rattle.std.proofs.Common.{◌≡◌, ℕ, ◌+◌, ◌<◌, ◌≤◌, List, length, get_or, take, subst, arith}
 use Rattle.std.specs.Prelude.{slice_index, slice_range}
-use Rattle.std.proofs.lemmas.Bool.{cases_lt}
-use Rattle.std.proofs.lemmas.List.{length-append, get_or_append_left, get_or-append_right}
 use Rattle.std.proofs.lemmas.List.Elements.{All-more, All-weaker}
-use lib.IntN.{ℤ, pos}
+use lib.IntN.{ℤ}
 use lib.Signed.{◌≤ℤ◌}
 use Rattle.mill_base.specs.declared.points.Box2.{Box2}
 use Rattle.mill_cells.specs.Frames.{cell_count}
@@ -21,20 +19,6 @@ pub under_more : (tops : List ℤ) (numbers : List ℕ) (k d : ℕ) (lid new : �
 under_more tops numbers k d lid new less le it h =
     All-more (λ i. top_at tops i ≤ℤ new) numbers k d less
     (All-weaker (λ i. top_at tops i ≤ℤ lid) (λ i. top_at tops i ≤ℤ new) (λ i under. le_trans_ℤ (top_at tops i) lid new under le) (take k numbers) h) it
-
--- one lid more
-pub lids_more : (starts entries : List ℕ) (tops lids : List ℤ) (lid : ℤ) → AreUnder tops lid (slice_range entries (slice_index starts (length lids)) (slice_index starts (length lids + 1)))
-    → AreLids starts entries tops lids → AreLids starts entries tops (lids ++ lid ∷ [])
-lids_more starts entries tops lids lid new h k less = elim (cases_lt k (length lids)) [
-  | inl early ↦ subst (λ (z : ℤ). AreUnder tops z (slice_range entries (slice_index starts k) (slice_index starts (k + 1)))) (sym (get_or_append_left lids (lid ∷ []) (pos 0) k early)) (h k early)
-  | inr late ↦ last k (omega (arith, length-append lids (lid ∷ [])))
-]
-  where
-    at_end : top_at (lids ++ lid ∷ []) (length lids) ≡ lid
-    at_end = let e : length lids - length lids ≡ 0 = omega arith in rw e at (get_or-append_right lids (lid ∷ []) (length lids) (length lids) (pos 0) refl (omega arith))
-
-    last : (k : ℕ) → k ≡ length lids → AreUnder tops (top_at (lids ++ lid ∷ []) k) (slice_range entries (slice_index starts k) (slice_index starts (k + 1)))
-    last k e = rw e (subst (λ (z : ℤ). AreUnder tops z (slice_range entries (slice_index starts (length lids)) (slice_index starts (length lids + 1)))) (sym at_end) new)
 
 -- where the boxes are placed, each cell's part is in order and within the entries
 pub starts_order : (f : Frame) (boxes : List Box2) (starts : List ℕ) → length starts ≡ cell_count f + 1 → ((k : ℕ) → k ≤ cell_count f → slice_index starts k ≡ start_of f boxes k)

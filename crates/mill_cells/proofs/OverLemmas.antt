@@ -35,9 +35,6 @@ pub record IsOver (height : ℤ) (old new : Walk) : Type 0 where
 pub over_in_starts : (height : ℤ) (w : Walk) → IsWalk w → IsOverIn height w w
 over_in_starts height w h = record { walk = h; passed = none_passed w.grid.now.tops.items height (rest_of w) (rest_of w) refl; entered = refl; cells = refl; tops = refl }
 
-pub over_starts : (height : ℤ) (w : Walk) → IsWalk w → IsOver height w w
-over_starts height w h = record { walk = h; passed = none_passed w.grid.now.tops.items height (rest_of w) (rest_of w) refl; tops = refl }
-
 -- whether the number i is given in the walk's cell
 abbrev pub shows_in : Walk → ℕ → Bool
 shows_in w i = shows w.grid.now.frame w.area w.column w.row (box_at w.grid.now.boxes.items i)

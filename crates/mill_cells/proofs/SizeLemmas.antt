@@ -7,7 +7,7 @@ use Rattle.std.proofs.Math.Pow.{pow_mono}
 use Rattle.std.proofs.lemmas.Bool.{cases_lt}
 use Rattle.std.proofs.lemmas.Int.{ints, to_z_pos}
 use Rattle.std.proofs.lemmas.Nat.{le-div, div_below, one_shl}
-use Rattle.std.proofs.lemmas.List.Sums.{sum_by-take-le, sum_by_more, sum_by-cons}
+use Rattle.std.proofs.lemmas.List.Sums.{sum_by-cons}
 use Rattle.std.proofs.lemmas.List.Elements.{Contains-get_or}
 use lib.IntN.{ℤ, pos, ◌-ℤ◌}
 use lib.Signed.{◌<ℤ◌, ◌≤ℤ◌}
@@ -73,20 +73,6 @@ greatest_fits tris all =
 -- a triangle's box within the bounds
 pub tri_inside : (tris : List Tri) (i : ℕ) (d : Tri) → TrisInRange tris → i < length tris → IsInside (bounds_of tris) (box_of (get_or tris i d))
 tri_inside tris i d all less = bounds_hold_one tris (get_or tris i d) all (Contains-get_or tris i d less)
-
--- the sum over the triangles so far
-pub sum_more : (tris : List Tri) (size i numbers more : ℕ) (d : Tri) → i < length tris
-    → numbers ≡ cell_count (frame_of tris size) + sum_by (tri_cells tris size) (take i tris) → more ≡ tri_cells tris size (get_or tris i d)
-    → numbers + more ≡ cell_count (frame_of tris size) + sum_by (tri_cells tris size) (take (i + 1) tris)
-sum_more tris size i numbers more d less e m = omega (arith, e, m, sum_by_more (tri_cells tris size) tris i d less)
-
-pub too_many : (tris : List Tri) (size i numbers : ℕ) → numbers ≡ cell_count (frame_of tris size) + sum_by (tri_cells tris size) (take i tris)
-    → 4 * (length tris + 1) < numbers → ¬ IsSmallGrid tris size
-too_many tris size i numbers e over h = omega (arith, h.small, sum_by-take-le (tri_cells tris size) tris i)
-
-pub sum_all : (tris : List Tri) (size i numbers : ℕ) → length tris ≤ i → numbers ≡ cell_count (frame_of tris size) + sum_by (tri_cells tris size) (take i tris)
-    → numbers ≡ cell_count (frame_of tris size) + entry_count tris size
-sum_all tris size i numbers end e = rw (take_all i tris end) at e
 
 -- no lesser power of two fits, where none before this one does
 pub least_power : (tris : List Tri) (d : ℕ) → ((k : ℕ) → k < d → ¬ IsSmallGrid tris (2 ^ k)) → (k : ℕ) → (pos (2 ^ k)) <ℤ (pos (2 ^ d)) → ¬ IsSmallGrid tris (2 ^ k)

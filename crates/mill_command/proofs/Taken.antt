@@ -51,9 +51,6 @@ sample_shape = built_leaf (inherited above sample.top)
 abbrev topic_shape : Shape
 topic_shape = built_leaf help_shape
 
-are_built : (built commands).subs ≡ verify_shape ∷ rest_shape ∷ plan_shape ∷ drop_shape ∷ level_shape ∷ stock_shape ∷ sample_shape ∷ topic_shape ∷ []
-are_built = refl
-
 abbrev HasRequest : Option Request → Type 0
 HasRequest o = (asked : Request) × (o ≡ Some asked) × IsBounded asked
 

@@ -23,9 +23,6 @@ module _ (p : Corner) (h : CornerInRange p) where
   pub x_kept : stored w64 p.x ≡ p.x
   x_kept = kept_in w64 farthest p.x h.x_ok refl
 
-  pub y_kept : stored w64 p.y ≡ p.y
-  y_kept = kept_in w64 farthest p.y h.y_ok refl
-
   pub z_kept : stored w64 p.z ≡ p.z
   z_kept = kept_in w64 farthest p.z h.z_ok refl
 

@@ -25,9 +25,6 @@ use Rattle.mill_contact_cone.proofs.WholeCerts.{axis_near, axis_steep, scaled_su
 weak : (x : ℤ) → (pos 0) <ℤ x → (pos 0) ≤ℤ x
 weak x h = omega (arith, ints)
 
-sum : (u v w : ℤ) → (pos 0) ≤ℤ u → (pos 0) ≤ℤ v → (pos 0) ≤ℤ w → (pos 0) ≤ℤ ((u +ℤ v) +ℤ w)
-sum u v w hu hv hw = omega (arith, ints)
-
 pub zero_ok : (pos 0) ≤ℤ pos 0
 zero_ok = omega (arith, ints)
 

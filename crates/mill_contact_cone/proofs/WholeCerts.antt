@@ -71,6 +71,3 @@ under_back u v w p q s h = prove_le_by (u ∷ v ∷ w ∷ p ∷ q ∷ s ∷ []) 
 -- vars u v w p q s; hyp h: 0 <= (u*(0-p)+v*(0-q))+w*(0-s); goal (u*p+v*q)+w*s <= 0
 pub under_of : (u v w p q s : ℤ) → (pos 0) ≤ℤ (((u *ℤ ((pos 0) -ℤ p)) +ℤ (v *ℤ ((pos 0) -ℤ q))) +ℤ (w *ℤ ((pos 0) -ℤ s))) → (((u *ℤ p) +ℤ (v *ℤ q)) +ℤ (w *ℤ s)) ≤ℤ (pos 0)
 under_of u v w p q s h = prove_le_by (u ∷ v ∷ w ∷ p ∷ q ∷ s ∷ []) (Le (Num (pos 0)) (Add (Add (Mul (Var 0) (Sub (Num (pos 0)) (Var 3))) (Mul (Var 1) (Sub (Num (pos 0)) (Var 4)))) (Mul (Var 2) (Sub (Num (pos 0)) (Var 5)))) ∷ []) (Add (Add (Mul (Var 0) (Var 3)) (Mul (Var 1) (Var 4))) (Mul (Var 2) (Var 5))) (Num (pos 0)) (Plus (Hyp 0) (Hyp 1)) 0 (h, tt) refl
-
-pub square_opposite : (v : ℤ) → (((pos 0) -ℤ v) *ℤ ((pos 0) -ℤ v)) ≡ (v *ℤ v)
-square_opposite v = ring (v ∷ []) (Mul (Sub (Num (pos 0)) (Var 0)) (Sub (Num (pos 0)) (Var 0))) (Mul (Var 0) (Var 0)) refl

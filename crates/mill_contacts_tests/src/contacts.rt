@@ -3,9 +3,9 @@ ghost use Rattle.mill_base.specs.Ranges.{TriInRange};
 ghost use Rattle.mill_base.specs.Sizes.{IsWideCutter};
 ghost use Rattle.mill_geom.specs.Offsets.{IsCentre};
 
-use crate::tables::{cutter, halves, placed, tip, triangle};
 use mill_base::{Cutter, Pt3, Tri};
 use mill_geom::{Axis, Side, Touch};
+use mill_tables::{halves, placed, tip, triangle, wide_cutter};
 use std::process::Abort;
 use std::test::Fail;
 
@@ -122,7 +122,7 @@ fn look_at_block<R: Abort>(rt: &R, block: &str) -> Result<(), Fail> {
     let (title, block) = block.split_once(":\n").ok_or("a block without a title")?;
     let (head, rows) = block.split_once("\n").ok_or("a block without rows")?;
     let (name, corners) = head.split_once(": ").unwrap_or((head, ""));
-    look_at_rows(rt, cutter(name)?, corners, title, rows)
+    look_at_rows(rt, wide_cutter(name)?, corners, title, rows)
 }
 
 /// Looks at many triangles. A table has blocks with an empty line between any two. A block begins with

@@ -13,5 +13,3 @@ mod contact_flat;
 mod contacts;
 #[cfg(test)]
 mod shape;
-#[cfg(test)]
-mod tables;

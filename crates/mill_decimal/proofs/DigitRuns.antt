@@ -80,12 +80,6 @@ goes_on digits i v w total lt e so_far =
     let one : digits_value_after 10 v (drop i digits) ≡ digits_value_after 10 w (drop (i + 1) digits) = rw (add-one i, drop-cons digits i 0 lt, e) refl in
     sym one ∙ so_far
 
--- the end of such a loop
-pub is_done : (digits : List ℕ) (i v total : ℕ) → length digits ≤ i → digits_value_after 10 v (drop i digits) ≡ total → v ≡ total
-is_done digits i v total le so_far =
-    let one : digits_value_after 10 v (drop i digits) ≡ v = rw (drop_of_length-le digits le) refl in
-    sym one ∙ so_far
-
 after-append : (n : ℕ) (xs ys : List ℕ) → digits_value_after 10 n (xs ++ ys) ≡ digits_value_after 10 (digits_value_after 10 n xs) ys
 after-append n [] ys = refl
 after-append n (x ∷ xs) ys = after-append (n * 10 + digit_value x) xs ys

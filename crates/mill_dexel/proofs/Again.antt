@@ -12,11 +12,11 @@ use Rattle.mill_base.specs.Points.{point_at}
 use Rattle.mill_base.specs.declared.points.Pt3.{Pt3}
 use Rattle.mill_base.specs.declared.motion.Move.{Move}
 use Rattle.mill_base.specs.declared.cutter.Cutter.{Cutter}
-use Rattle.mill_job.specs.declared.job.Job.{Job}
+use Rattle.mill_job.specs.declared.fields.JobFields.{JobFields}
 use Rattle.mill_job.specs.Columns.{column_x, column_y}
 use Rattle.mill_sweep.specs.Leaves.{end_of}
-use Rattle.mill_sampling.specs.declared.sample.Placed.{Placed}
-use Rattle.mill_sampling.specs.Samples.{placed, sample_at, split_of, sample_centre, is_at_whole_place}
+use Rattle.mill_dexel.specs.declared.sample.Placed.{Placed}
+use Rattle.mill_dexel.specs.Samples.{placed, sample_at, split_of, sample_centre, is_at_whole_place}
 use Rattle.mill_dexel.specs.Tops.{lowered_to, top_after_sample, top_after_move, tops_after_move}
 use Rattle.mill_dexel.specs.Rows.{top_at}
 use Rattle.mill_dexel.specs.Cuts.{IsCutBy, IsCutAt}
@@ -120,7 +120,7 @@ sample_again floor x y top None = refl
 sample_again floor x y top (Some s) = lowered_again floor top _
 
 -- after a move, the row is cut at its end
-pub cut_at_end : (job : Job) (j : ℕ) (m : Move) (tops : List ℤ) → IsCutAt job j m.to (tops_after_move job j 0 m tops)
+pub cut_at_end : (job : JobFields) (j : ℕ) (m : Move) (tops : List ℤ) → IsCutAt job j m.to (tops_after_move job j 0 m tops)
 cut_at_end job j m tops = record { columns = refl; each = λ i within. each i (rw (← length-tops_after_move job j 0 m tops) within) }
   where
     -- the tops after all samples of the move but the last one
@@ -146,13 +146,13 @@ cut_at_end job j m tops = record { columns = refl; each = λ i within. each i (r
         ∙ ap (λ (t : ℤ). top_after_sample job.floor (column_x job i) (column_y job j) t (Some (placed job.cutter m.to))) (sym (top i within))
 
 -- where a row is cut at a move's start, the move's first sample changes nothing
-first_is_cut : (job : Job) (j : ℕ) (m : Move) (d : ℕ) (tops : List ℤ) → IsCutAt job j m.from tops → IsCutByFirst job j m d 1 tops tops
+first_is_cut : (job : JobFields) (j : ℕ) (m : Move) (d : ℕ) (tops : List ℤ) → IsCutAt job j m.from tops → IsCutByFirst job j m d 1 tops tops
 first_is_cut job j m d tops cut =
     samples_go_on job j m d 0 tops tops tops (samples_start job j m d tops)
     (subst (λ (s : Option Placed). IsCutBy job j s tops tops) (sym (sample_at-start job.cutter m d)) cut)
 
 -- so a move's samples may begin from number 1 on where the row is cut at its start, and from 0 on in any row
-pub first_starts : (job : Job) (j : ℕ) (m : Move) (d first : ℕ) (last : Option Pt3) (tops : List ℤ) → first ≤ 1 → (first ≡ 1 → last ≡ Some m.from) → IfSome last (λ tip. IsCutAt job j tip tops)
+pub first_starts : (job : JobFields) (j : ℕ) (m : Move) (d first : ℕ) (last : Option Pt3) (tops : List ℤ) → first ≤ 1 → (first ≡ 1 → last ≡ Some m.from) → IfSome last (λ tip. IsCutAt job j tip tops)
     → IsCutByFirst job j m d first tops tops
 first_starts job j m d zero last tops most known cut = samples_start job j m d tops
 first_starts job j m d (suc zero) last tops most known cut = first_is_cut job j m d tops (subst (λ (o : Option Pt3). IfSome o (λ tip. IsCutAt job j tip tops)) (known refl) cut)

@@ -7,10 +7,10 @@ use Rattle.mill_base.proofs.Divisions.{half_low, half_high}
 use Rattle.mill_base.specs.Numbers.{round_half_up}
 use Rattle.mill_base.specs.Sizes.{IsCutter, radius_of}
 use Rattle.mill_base.specs.declared.motion.Move.{Move}
-use Rattle.mill_job.specs.declared.job.Job.{Job}
+use Rattle.mill_job.specs.declared.fields.JobFields.{JobFields}
 use Rattle.mill_job.specs.Columns.{column_y}
 use Rattle.mill_sweep.specs.Leaves.{end_of}
-use Rattle.mill_sampling.specs.Samples.{placed, sample_at, split_of, sample_centre}
+use Rattle.mill_dexel.specs.Samples.{placed, sample_at, split_of, sample_centre}
 use Rattle.mill_dexel.specs.Tops.{tops_after_move}
 use Rattle.mill_dexel.specs.Cuts.{IsCutBy, IsBeyond}
 use Rattle.mill_dexel.proofs.InnerCerts.{between_low, between_high}
@@ -48,7 +48,7 @@ beyond_less : (r s c y : ℤ) → s ≤ℤ r → IsBeyond r c c y → IsBeyond s
 beyond_less r s c y less (inl h) = let l = h.first in inl (record { first = omega (arith, ints); second = omega (arith, ints) })
 beyond_less r s c y less (inr h) = let l = h.first in inr (record { first = omega (arith, ints); second = omega (arith, ints) })
 
-module _ (job : Job) (j : ℕ) (m : Move) (old : List ℤ) (size : IsCutter job.cutter) (beyond : IsBeyond (radius_of job.cutter) m.from.y m.to.y (column_y job j)) where
+module _ (job : JobFields) (j : ℕ) (m : Move) (old : List ℤ) (size : IsCutter job.cutter) (beyond : IsBeyond (radius_of job.cutter) m.from.y m.to.y (column_y job j)) where
   sample_keeps : (d k : ℕ) → k ≤ 2 ^ d → IsCutBy job j (sample_at job.cutter m d k) old old
   sample_keeps d k within =
       sample_cases job.cutter m d k (λ s. IsCutBy job j s old old)

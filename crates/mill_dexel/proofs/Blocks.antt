@@ -11,7 +11,7 @@ use Rattle.mill_base.specs.Tools.{IsHolder}
 use Rattle.mill_base.specs.declared.motion.Move.{Move}
 use Rattle.mill_base.specs.declared.tool.Holder.{Holder}
 use Rattle.mill_base.specs.declared.limits.TheConstants.{MAX_LAST_REACH}
-use Rattle.mill_job.specs.declared.job.Job.{Job}
+use Rattle.mill_job.specs.declared.fields.JobFields.{JobFields}
 use Rattle.mill_job.specs.Jobs.{IsJob}
 use Rattle.mill_job.specs.Columns.{column_y}
 use Rattle.mill_dexel.specs.Tops.{tops_after_move}
@@ -53,21 +53,21 @@ slice_parts moves d k n from to =
     here : d + (k - d) ≡ k
     here = omega (arith, from)
 
-tops_parts : (job : Job) (j : ℕ) (moves : List Move) (d k n : ℕ) (tops : List ℤ) → d ≤ k → k ≤ n
+tops_parts : (job : JobFields) (j : ℕ) (moves : List Move) (d k n : ℕ) (tops : List ℤ) → d ≤ k → k ≤ n
     → tops_after job j (slice_range moves d n) tops ≡ tops_after job j (slice_range moves k n) (tops_after job j (slice_range moves d k) tops)
 tops_parts job j moves d k n tops from to =
     ap (λ (ms : List Move). tops_after job j ms tops) (slice_parts moves d k n from to)
     ∙ fold-append (λ (ts : List ℤ) (m : Move). tops_after_move job j 0 m ts) tops (slice_range moves d k) (slice_range moves k n)
 
 -- a row that another one came to by its turns, as move n meets both
-pub row_parts : (job : Job) (moves : List Move) (old mid : RowState) (n : ℕ) → old.done ≤ mid.done → mid.done ≤ n → mid ≡ row_before job moves old mid.done
+pub row_parts : (job : JobFields) (moves : List Move) (old mid : RowState) (n : ℕ) → old.done ≤ mid.done → mid.done ≤ n → mid ≡ row_before job moves old mid.done
     → row_before job moves mid n ≡ row_before job moves old n
 row_parts job moves old mid n from to is =
     ap (λ (r : RowState). row_before job moves r n) is
     ∙ ap (λ (ts : List ℤ). record old { tops = ts; done = n }) (sym (tops_parts job old.row moves old.done mid.done n old.tops from to))
 
 -- two runs, the second of which goes on where the first came to
-module _ (job : Job) (moves : List Move) (limit more : ℕ) (old mid new : RowState) where
+module _ (job : JobFields) (moves : List Move) (limit more : ℕ) (old mid new : RowState) where
   runs_join : old.failed ≡ None → mid.failed ≡ None → IsRunUpTo job moves limit old mid → IsRunUpTo job moves more mid new → IsRunUpTo job moves more old new
   runs_join old_none mid_none first second = record {
     onward = omega (arith, first.onward, second.onward);
@@ -114,7 +114,7 @@ module _ (job : Job) (moves : List Move) (limit more : ℕ) (old mid new : RowSt
       by (Some fail) (Some again) e f first second = second ∙ first
 
 -- before the first move, a row is as it was
-pub turns_start : (job : Job) (moves : List Move) (r : RowState) → IsTurnedUpTo job moves 0 r r
+pub turns_start : (job : JobFields) (moves : List Move) (r : RowState) → IsTurnedUpTo job moves 0 r r
 turns_start job moves r = by r.failed refl
   where
     none : (n : ℕ) → n - n ≡ 0
@@ -130,7 +130,7 @@ turns_start job moves r = by r.failed refl
     by (Some fail) e = refl
 
 -- after the last move, it went through its turns
-pub turns_end : (job : Job) (moves : List Move) (limit : ℕ) (old new : RowState) → length moves ≤ limit → IsTurnedUpTo job moves limit old new → IsTurned job moves old new
+pub turns_end : (job : JobFields) (moves : List Move) (limit : ℕ) (old new : RowState) → length moves ≤ limit → IsTurnedUpTo job moves limit old new → IsTurned job moves old new
 turns_end job moves limit old new all = by old.failed
   where
     ends : (f : Option RowFail) → TurnsEndBy job moves old limit new.done f → TurnsEndAt job moves old new.done f
@@ -148,7 +148,7 @@ turns_end job moves limit old new all = by old.failed
     by (Some fail) same = same
 
 -- a move that stays away from a row passes each of its columns, by its cutter and by its holder, and so the row
-away_clears : (job : Job) (r : RowState) (m : Move) → IsJob job → MoveInRange m → IsAway job m.from.y m.to.y (column_y job r.row) → ClearsRow job r m
+away_clears : (job : JobFields) (r : RowState) (m : Move) → IsJob job → MoveInRange m → IsAway job m.from.y m.to.y (column_y job r.row) → ClearsRow job r m
 away_clears job r m is_job range away = record {
   cut = λ tested. far_passes_row job (cutting job m.kind m) r (cutting_trial job m.kind m is_job.cutter_ok range) away.cut;
   holder = held job.holder is_job.holder_ok away.holder;
@@ -177,7 +177,7 @@ in_band_beyond : (distance y low high : ℤ) (m : Move) → IsInBand low high m 
 in_band_beyond distance y low high m inside (inl h) = let l = h.first in let a = inside.from_low in let b = inside.to_low in inl (record { first = omega (arith, ints); second = omega (arith, ints) })
 in_band_beyond distance y low high m inside (inr h) = let l = h.second in let a = inside.from_high in let b = inside.to_high in inr (record { first = omega (arith, ints); second = omega (arith, ints) })
 
-in_band_away : (job : Job) (y low high : ℤ) (m : Move) → IsInBand low high m → IsAway job low high y → IsAway job m.from.y m.to.y y
+in_band_away : (job : JobFields) (y low high : ℤ) (m : Move) → IsInBand low high m → IsAway job low high y → IsAway job m.from.y m.to.y y
 in_band_away job y low high m inside away = record {
   cut = in_band_beyond (radius_of job.cutter +ℤ pos MAX_LAST_REACH) y low high m inside away.cut;
   holder = held job.holder away.holder;
@@ -191,7 +191,7 @@ contained : (moves : List Move) (k : ℕ) → MovesInRange moves → k < length 
 contained moves k range there = range (move_at moves k) (k, there, move_read moves k (move_at moves k) there)
 
 -- a row that hasn't failed, before its next move
-pub run_start : (job : Job) (moves : List Move) (r : RowState) → IsRowOf job r → r.failed ≡ None → IsRunTo job moves r r r.done
+pub run_start : (job : JobFields) (moves : List Move) (r : RowState) → IsRowOf job r → r.failed ≡ None → IsRunTo job moves r r r.done
 run_start job moves r is_row unfailed = record {
   onward = omega arith;
   passed = λ k from to. absurd (omega (arith, from, to));
@@ -204,7 +204,7 @@ run_start job moves r is_row unfailed = record {
     none n = omega arith
 
 -- a row passes over moves that stay far away from it
-module _ (job : Job) (moves : List Move) (old now : RowState) (start : ℕ) (is_job : IsJob job) (range : MovesInRange moves) (run : IsRunTo job moves old now start) where
+module _ (job : JobFields) (moves : List Move) (old now : RowState) (start : ℕ) (is_job : IsJob job) (range : MovesInRange moves) (run : IsRunTo job moves old now start) where
   -- the row, where it is before move k
   abbrev pub passing : ℕ → RowState
   passing k = record now { done = k }
@@ -233,7 +233,7 @@ module _ (job : Job) (moves : List Move) (old now : RowState) (start : ℕ) (is_
       (past_one (start + more) (omega (arith, there)) (far (start + more) (omega arith) (omega arith)) (run_past more (omega (arith, there)) (λ k from to. far k from (omega (arith, to)))))
 
 -- so a row that goes over a band at once went through its turns up to the band's end
-pub over_runs : (job : Job) (moves : List Move) (band : Band) (old now new : RowState) → IsJob job → MovesInRange moves → band.«end» ≤ length moves → IsBand moves band
+pub over_runs : (job : JobFields) (moves : List Move) (band : Band) (old now new : RowState) → IsJob job → MovesInRange moves → band.«end» ≤ length moves → IsBand moves band
     → IsRunTo job moves old now now.done → PassesOver job band now new → IsRunTo job moves old new band.«end»
 over_runs job moves band old now new is_job range there is_band run over =
     subst (λ (r : RowState). IsRunTo job moves old r band.«end») (sym over.is)
@@ -244,18 +244,18 @@ over_runs job moves band old now new is_job range there is_band run over =
     whole : now.done + (band.«end» - now.done) ≡ band.«end»
     whole = omega (arith, over.onward)
 
-pub over_is_up_to : (job : Job) (moves : List Move) (band : Band) (old new : RowState) → IsJob job → MovesInRange moves → IsRowOf job old → old.failed ≡ None → band.«end» ≤ length moves → IsBand moves band
+pub over_is_up_to : (job : JobFields) (moves : List Move) (band : Band) (old new : RowState) → IsJob job → MovesInRange moves → IsRowOf job old → old.failed ≡ None → band.«end» ≤ length moves → IsBand moves band
     → PassesOver job band old new → IsTurnedUpTo job moves band.«end» old new
 over_is_up_to job moves band old new is_job range is_row unfailed there is_band over =
     run_ended job moves band.«end» old new band.«end» (omega arith) (over_runs job moves band old old new is_job range there is_band (run_start job moves old is_row unfailed) over)
 
 -- a row that went over its moves from t on, its next one, before n
-pub record IsOver (job : Job) (moves : List Move) (t : ℕ) (old now : RowState) (n : ℕ) : Type 0 where
+pub record IsOver (job : JobFields) (moves : List Move) (t : ℕ) (old now : RowState) (n : ℕ) : Type 0 where
   pub onward : t ≤ n
   pub clears : (k : ℕ) → t ≤ k → k < n → ClearsRow job (row_before job moves old k) (move_at moves k)
   pub is : now ≡ row_before job moves old n
 
-pub gone_over : (job : Job) (moves : List Move) (t : ℕ) (old now : RowState) (n : ℕ) → t ≡ old.done → IsRunTo job moves old now n → IsOver job moves t old now n
+pub gone_over : (job : JobFields) (moves : List Move) (t : ℕ) (old now : RowState) (n : ℕ) → t ≡ old.done → IsRunTo job moves old now n → IsOver job moves t old now n
 gone_over job moves t old now n next run = record {
   onward = omega (arith, next, run.onward);
   clears = λ k from to. (run.passed k (omega (arith, next, from)) to).clears;

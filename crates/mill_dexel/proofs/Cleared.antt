@@ -20,9 +20,9 @@ use Rattle.mill_shape.proofs.Holding.{holds_near, holds_over_tip}
 use Rattle.mill_shape.proofs.Over.{holds_over}
 use Rattle.mill_sweep.proofs.Passing.{radius_least}
 use Rattle.mill_sweep.proofs.Vertical.{vertical_passes_point}
-use Rattle.mill_job.specs.declared.job.Job.{Job}
-use Rattle.mill_sampling.specs.declared.sample.Placed.{Placed}
-use Rattle.mill_sampling.specs.Samples.{placed, sample_at, samples, split_of}
+use Rattle.mill_job.specs.declared.fields.JobFields.{JobFields}
+use Rattle.mill_dexel.specs.declared.sample.Placed.{Placed}
+use Rattle.mill_dexel.specs.Samples.{placed, sample_at, samples, split_of}
 use Rattle.mill_dexel.specs.Tops.{lowered_to, top_after_sample, top_after_move, top_after}
 use Rattle.mill_dexel.specs.Laws.{CutAtEnd, PassesAfterCut}
 use Rattle.mill_dexel.proofs.Ends.{last_sample}
@@ -88,7 +88,7 @@ module _ (cutter : Cutter) (t : Pt3) (x y : ℤ) where
           (free_lower (lesser top h) h (lesser_right top h) (cut_height_is_greatest cutter t x y h (cutter_is_wide cutter MAX_RADIUS (omega (arith, ints)) size) e).free)
 
 -- no cut of a job takes it back
-module _ (job : Job) (t : Pt3) (x y : ℤ) (size : IsCutter job.cutter) (low : job.floor ≤ℤ t.z) where
+module _ (job : JobFields) (t : Pt3) (x y : ℤ) (size : IsCutter job.cutter) (low : job.floor ≤ℤ t.z) where
   lowered_keeps : (top : ℤ) (cut : Option ℤ) → IsFreeAt job.cutter t x y top → IsFreeAt job.cutter t x y (lowered_to job.floor top cut)
   lowered_keeps top None free = free
   lowered_keeps top (Some h) free =
@@ -108,7 +108,7 @@ module _ (job : Job) (t : Pt3) (x y : ℤ) (size : IsCutter job.cutter) (low : j
   moves_keep top (m ∷ moves) free = moves_keep (top_after_move job x y top m) moves (samples_keep top (samples job.cutter job.sample m) free)
 
 -- a move ends with the sample at its end
-module _ (job : Job) (m : Move) (x y : ℤ) (size : IsCutter job.cutter) (low : job.floor ≤ℤ m.to.z) where
+module _ (job : JobFields) (m : Move) (x y : ℤ) (size : IsCutter job.cutter) (low : job.floor ≤ℤ m.to.z) where
   move_frees : (top : ℤ) → IsFreeAt job.cutter m.to x y (top_after_move job x y top m)
   move_frees top =
       let d = split_of job.sample m in

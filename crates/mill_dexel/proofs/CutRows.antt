@@ -12,11 +12,11 @@ use Rattle.std.proofs.Math.Nat.{eq-or-lt_of_le}
 use Rattle.std.proofs.lemmas.Int.{ints}
 use Rattle.mill_base.specs.Sizes.{IsCutter, radius_of, cut_height_of}
 use Rattle.mill_base.specs.declared.motion.Move.{Move}
-use Rattle.mill_job.specs.declared.job.Job.{Job}
+use Rattle.mill_job.specs.declared.fields.JobFields.{JobFields}
 use Rattle.mill_job.specs.Columns.{row_count, column_count, column_x, column_y}
 use Rattle.mill_job.specs.Jobs.{IsJob, IsFrom}
-use Rattle.mill_sampling.specs.declared.sample.Placed.{Placed}
-use Rattle.mill_sampling.specs.Samples.{sample_at, split_of}
+use Rattle.mill_dexel.specs.declared.sample.Placed.{Placed}
+use Rattle.mill_dexel.specs.Samples.{sample_at, split_of}
 use Rattle.mill_dexel.specs.Tops.{lowered_to, top_after_sample, top_after_move, tops_after_move}
 use Rattle.mill_dexel.specs.Rows.{RowState, IsRowOf, top_at}
 use Rattle.mill_dexel.specs.Cuts.{IsCutBy, IsReachBy, IsBeyond, IsHalfChord}
@@ -26,17 +26,17 @@ use Rattle.mill_base.specs.Points.{point_at}
 use Rattle.mill_dexel.proofs.RowLaws.{length-tops_after_move, tops_after_move-at}
 
 -- what the sample makes of the top of column k
-abbrev pub cut_top : Job → ℕ → Placed → List ℤ → ℕ → ℤ
+abbrev pub cut_top : JobFields → ℕ → Placed → List ℤ → ℕ → ℤ
 cut_top job j s tops k = top_after_sample job.floor (column_x job k) (column_y job j) (top_at tops k) (Some s)
 
 -- the columns before i are lowered by the sample, and the others are as they were
-pub record IsCutBefore (job : Job) (j : ℕ) (s : Placed) (i : ℕ) (old new : List ℤ) : Type 0 where
+pub record IsCutBefore (job : JobFields) (j : ℕ) (s : Placed) (i : ℕ) (old new : List ℤ) : Type 0 where
   pub columns : length new ≡ length old
   pub done : (k : ℕ) → k < i → k < length old → top_at new k ≡ cut_top job j s old k
   pub rest : (k : ℕ) → i ≤ k → top_at new k ≡ top_at old k
 
 -- the columns before the reach are too far away to be lowered
-pub cut_starts : (job : Job) (j : ℕ) (s : Placed) (chord : ℤ) (first «end» : ℕ) (old : List ℤ) → IsHalfChord (radius_of s.cutter) (column_y job j -ℤ s.tip.y) chord
+pub cut_starts : (job : JobFields) (j : ℕ) (s : Placed) (chord : ℤ) (first «end» : ℕ) (old : List ℤ) → IsHalfChord (radius_of s.cutter) (column_y job j -ℤ s.tip.y) chord
     → IsReachBy job chord s.tip.x s.tip.x first «end» → IsCutBefore job j s first old old
 cut_starts job j s chord first «end» old half reach = record {
   columns = refl;
@@ -45,7 +45,7 @@ cut_starts job j s chord first «end» old half reach = record {
 }
 
 -- lowering column i, too
-pub cut_goes_on : (job : Job) (j : ℕ) (s : Placed) (i : ℕ) (old new : List ℤ) → i < length old → IsCutBefore job j s i old new
+pub cut_goes_on : (job : JobFields) (j : ℕ) (s : Placed) (i : ℕ) (old new : List ℤ) → i < length old → IsCutBefore job j s i old new
     → IsCutBefore job j s (i + 1) old (slice_set new i (cut_top job j s new i))
 cut_goes_on job j s i old new there so_far = record {
   columns = length-set new i (cut_top job j s new i) ∙ so_far.columns;
@@ -73,7 +73,7 @@ cut_goes_on job j s i old new there so_far = record {
     by k (inr before) within = get_or-set_other new i k (cut_top job j s new i) (pos 0) (other k before) ∙ so_far.done k before within
 
 -- the columns from the reach's end on are too far away as well
-pub cut_ends : (job : Job) (j : ℕ) (s : Placed) (chord : ℤ) (first «end» i : ℕ) (old new : List ℤ) → IsHalfChord (radius_of s.cutter) (column_y job j -ℤ s.tip.y) chord
+pub cut_ends : (job : JobFields) (j : ℕ) (s : Placed) (chord : ℤ) (first «end» i : ℕ) (old new : List ℤ) → IsHalfChord (radius_of s.cutter) (column_y job j -ℤ s.tip.y) chord
     → IsReachBy job chord s.tip.x s.tip.x first «end» → length old ≡ column_count job → «end» ≤ i → IsCutBefore job j s i old new → IsCutBy job j (Some s) old new
 cut_ends job j s chord first «end» i old new half reach columns passed so_far = record {
   columns = so_far.columns;
@@ -93,36 +93,36 @@ cut_ends job j s chord first «end» i old new half reach columns passed so_far 
         ∙ beside_keeps s job.floor (column_x job k) (column_y job j) (top_at old k) chord half (inr (reach.over k (behind k h) (column k within)).first)
 
 -- a row too far away in y keeps all its tops
-pub beyond_keeps : (job : Job) (j : ℕ) (s : Placed) (old : List ℤ) → IsCutter s.cutter → IsBeyond (radius_of s.cutter) s.tip.y s.tip.y (column_y job j) → IsCutBy job j (Some s) old old
+pub beyond_keeps : (job : JobFields) (j : ℕ) (s : Placed) (old : List ℤ) → IsCutter s.cutter → IsBeyond (radius_of s.cutter) s.tip.y s.tip.y (column_y job j) → IsCutBy job j (Some s) old old
 beyond_keeps job j s old size beyond = record {
   columns = refl;
   each = λ k within. far_keeps s job.floor (column_x job k) (column_y job j) (top_at old k) size (inr (beyond_far (radius_of s.cutter) s.tip.y (column_y job j) beyond));
 }
 
 -- no sample, too
-pub none_keeps : (job : Job) (j : ℕ) (old : List ℤ) → IsCutBy job j None old old
+pub none_keeps : (job : JobFields) (j : ℕ) (old : List ℤ) → IsCutBy job j None old old
 none_keeps job j old = record { columns = refl; each = λ k within. refl }
 
 -- the tops after the first k samples of a move
-abbrev pub top_of_first : Job → ℕ → Move → ℕ → ℕ → List ℤ → ℕ → ℤ
+abbrev pub top_of_first : JobFields → ℕ → Move → ℕ → ℕ → List ℤ → ℕ → ℤ
 top_of_first job j m d k tops i = fold (top_after_sample job.floor (column_x job i) (column_y job j)) (top_at tops i) (map (sample_at job.cutter m d) (range_with_len 0 k))
 
-pub record IsCutByFirst (job : Job) (j : ℕ) (m : Move) (d k : ℕ) (old new : List ℤ) : Type 0 where
+pub record IsCutByFirst (job : JobFields) (j : ℕ) (m : Move) (d k : ℕ) (old new : List ℤ) : Type 0 where
   pub columns : length new ≡ length old
   pub each : (i : ℕ) → i < length old → top_at new i ≡ top_of_first job j m d k old i
 
-pub samples_start : (job : Job) (j : ℕ) (m : Move) (d : ℕ) (old : List ℤ) → IsCutByFirst job j m d 0 old old
+pub samples_start : (job : JobFields) (j : ℕ) (m : Move) (d : ℕ) (old : List ℤ) → IsCutByFirst job j m d 0 old old
 samples_start job j m d old = record { columns = refl; each = λ i within. refl }
 
 -- one sample more
-pub first_and_one : (job : Job) (j : ℕ) (m : Move) (d k : ℕ) (old : List ℤ) (i : ℕ)
+pub first_and_one : (job : JobFields) (j : ℕ) (m : Move) (d k : ℕ) (old : List ℤ) (i : ℕ)
     → top_of_first job j m d (k + 1) old i ≡ top_after_sample job.floor (column_x job i) (column_y job j) (top_of_first job j m d k old i) (sample_at job.cutter m d k)
 first_and_one job j m d k old i =
     ap (λ (places : List (Option Placed)). fold (top_after_sample job.floor (column_x job i) (column_y job j)) (top_at old i) places)
     (map-range_with_len_more (sample_at job.cutter m d) 0 k k (omega arith))
     ∙ fold-append (top_after_sample job.floor (column_x job i) (column_y job j)) (top_at old i) (map (sample_at job.cutter m d) (range_with_len 0 k)) (sample_at job.cutter m d k ∷ [])
 
-pub samples_go_on : (job : Job) (j : ℕ) (m : Move) (d k : ℕ) (old mid new : List ℤ) → IsCutByFirst job j m d k old mid → IsCutBy job j (sample_at job.cutter m d k) mid new
+pub samples_go_on : (job : JobFields) (j : ℕ) (m : Move) (d k : ℕ) (old mid new : List ℤ) → IsCutByFirst job j m d k old mid → IsCutBy job j (sample_at job.cutter m d k) mid new
     → IsCutByFirst job j m d (k + 1) old new
 samples_go_on job j m d k old mid new so_far cut = record {
   columns = cut.columns ∙ so_far.columns;
@@ -136,7 +136,7 @@ samples_go_on job j m d k old mid new so_far cut = record {
     in_mid i h = let e = so_far.columns in omega arith
 
 -- all samples of a move make the tops after the move
-pub samples_end : (job : Job) (j : ℕ) (m : Move) (d k : ℕ) (old new : List ℤ) → d ≡ split_of job.sample m → k ≡ 2 ^ d + 1 → IsCutByFirst job j m d k old new
+pub samples_end : (job : JobFields) (j : ℕ) (m : Move) (d k : ℕ) (old new : List ℤ) → d ≡ split_of job.sample m → k ≡ 2 ^ d + 1 → IsCutByFirst job j m d k old new
     → new ≡ tops_after_move job j 0 m old
 samples_end job j m d k old new split parts cut =
     ext_get_or (pos 0) new (tops_after_move job j 0 m old) (cut.columns ∙ sym (length-tops_after_move job j 0 m old)) each
@@ -155,19 +155,19 @@ samples_end job j m d k old new split parts cut =
         ∙ sym (tops_after_move-at job j 0 m old i (pos 0) (in_old i h))
 
 -- the tops of the uncut stock make a row
-pub uncut_is_row : (job : Job) (r : RowState) → IsJob job → r.row < row_count job → r.tops ≡ replicate (column_count job) job.top → IsRowOf job r
+pub uncut_is_row : (job : JobFields) (r : RowState) → IsJob job → r.row < row_count job → r.tops ≡ replicate (column_count job) job.top → IsRowOf job r
 uncut_is_row job r is_job there uncut = record {
   there = there;
   columns = ap length uncut ∙ length-replicate (column_count job) job.top;
   in_stock = rw uncut (All-replicate (IsFrom job.floor job.top) (column_count job) job.top (record { low = is_job.stock; high = omega (arith, ints) }));
 }
 
-at_column : (job : Job) (j i : ℕ) (s : Placed) (x y : ℤ) → x ≡ column_x job i → y ≡ column_y job j
+at_column : (job : JobFields) (j i : ℕ) (s : Placed) (x y : ℤ) → x ≡ column_x job i → y ≡ column_y job j
     → cut_height_of s.cutter s.tip x y ≡ cut_height_of s.cutter s.tip (column_x job i) (column_y job j)
 at_column job j i s x y x_is y_is = ap (λ (t : ℤ). cut_height_of s.cutter s.tip t y) x_is ∙ ap (λ (t : ℤ). cut_height_of s.cutter s.tip (column_x job i) t) y_is
 
 -- the code's steps give the top that the definition gives, where the cutter cuts the column
-pub lowered_is : (job : Job) (j i : ℕ) (s : Placed) (tops : List ℤ) (x y height top bound low least base high new : ℤ)
+pub lowered_is : (job : JobFields) (j i : ℕ) (s : Placed) (tops : List ℤ) (x y height top bound low least base high new : ℤ)
     → Some height ≡ cut_height_of s.cutter s.tip x y → x ≡ column_x job i → y ≡ column_y job j
     → top ≡ top_at tops i → bound ≡ height → low ≡ int_min top bound → least ≡ low → base ≡ job.floor → high ≡ int_max least base → new ≡ high
     → new ≡ cut_top job j s tops i
@@ -181,7 +181,7 @@ lowered_is job j i s tops x y height top bound low least base high new cut x_is 
     ∙ ap (lowered_to job.floor (top_at tops i)) (cut ∙ at_column job j i s x y x_is y_is)
 
 -- and where it doesn't
-pub kept_is : (job : Job) (j i : ℕ) (s : Placed) (tops : List ℤ) (x y : ℤ)
+pub kept_is : (job : JobFields) (j i : ℕ) (s : Placed) (tops : List ℤ) (x y : ℤ)
     → None ≡ cut_height_of s.cutter s.tip x y → x ≡ column_x job i → y ≡ column_y job j
     → tops ≡ slice_set tops i (cut_top job j s tops i)
 kept_is job j i s tops x y cut x_is y_is =
@@ -189,14 +189,14 @@ kept_is job j i s tops x y cut x_is y_is =
     ∙ ap (λ (cut : Option ℤ). slice_set tops i (lowered_to job.floor (top_at tops i) cut)) (cut ∙ at_column job j i s x y x_is y_is)
 
 -- a top from the floor to the tip's height stays, too
-pub free_is : (job : Job) (j i : ℕ) (s : Placed) (tops : List ℤ) → IsCutter s.cutter → job.floor ≤ℤ top_at tops i → top_at tops i ≤ℤ s.tip.z
+pub free_is : (job : JobFields) (j i : ℕ) (s : Placed) (tops : List ℤ) → IsCutter s.cutter → job.floor ≤ℤ top_at tops i → top_at tops i ≤ℤ s.tip.z
     → tops ≡ slice_set tops i (cut_top job j s tops i)
 free_is job j i s tops size low high =
     sym (set-get_or tops i (pos 0))
     ∙ ap (λ (t : ℤ). slice_set tops i t) (free_keeps s job.floor (column_x job i) (column_y job j) (top_at tops i) size low high)
 
 -- so does one from the floor on that isn't strictly inside the cutter
-pub clear_is : (job : Job) (j i : ℕ) (s : Placed) (tops : List ℤ) (x y top : ℤ) → IsCutter s.cutter → x ≡ column_x job i → y ≡ column_y job j → top ≡ top_at tops i
+pub clear_is : (job : JobFields) (j i : ℕ) (s : Placed) (tops : List ℤ) (x y top : ℤ) → IsCutter s.cutter → x ≡ column_x job i → y ≡ column_y job j → top ≡ top_at tops i
     → job.floor ≤ℤ top → ¬ Holds s.cutter (pos 1) s.tip (pos 1) (point_at x y top) → tops ≡ slice_set tops i (cut_top job j s tops i)
 clear_is job j i s tops x y top size x_is y_is top_is low outside =
     sym (set-get_or tops i (pos 0))

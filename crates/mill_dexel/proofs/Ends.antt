@@ -13,7 +13,7 @@ use Rattle.mill_base.specs.declared.points.Pt3.{Pt3}
 use Rattle.mill_base.specs.declared.motion.Move.{Move}
 use Rattle.mill_base.specs.declared.cutter.Cutter.{Cutter}
 use Rattle.mill_sweep.specs.Leaves.{end_of}
-use Rattle.mill_sampling.specs.Samples.{placed, sample_at, sample_centre, is_at_whole_place}
+use Rattle.mill_dexel.specs.Samples.{placed, sample_at, sample_centre, is_at_whole_place}
 use Rattle.mill_dexel.proofs.LastCerts.{last_end, under_next}
 use Rattle.mill_dexel.proofs.InnerCerts.{nearest_high}
 use Rattle.mill_dexel.proofs.Places.{whole_is, whole_place}

@@ -29,3 +29,4 @@ pub mod SameStocks
 pub mod Shows
 mod StockLaws
 pub mod Ranges
+mod Splits

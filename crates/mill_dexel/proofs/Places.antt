@@ -12,8 +12,8 @@ use Rattle.mill_base.specs.Sizes.{IsCutter, HasRadius, inner, shift, radius_of, 
 use Rattle.mill_base.specs.declared.motion.Move.{Move}
 use Rattle.mill_base.specs.declared.cutter.Cutter.{Cutter}
 use Rattle.mill_base.specs.declared.cutter.Cutter.TheVariants.{Flat, Ball, Cone}
-use Rattle.mill_sampling.specs.declared.sample.Placed.{Placed}
-use Rattle.mill_sampling.specs.Samples.{placed, sample_centre, is_at_whole_place, raised_over, sample_at}
+use Rattle.mill_dexel.specs.declared.sample.Placed.{Placed}
+use Rattle.mill_dexel.specs.Samples.{placed, sample_centre, is_at_whole_place, raised_over, sample_at}
 use Rattle.mill_dexel.proofs.InnerCerts.{nearest_low, nearest_high}
 
 -- a multiple of n is n times a whole number, which is the nearest to it
@@ -103,8 +103,3 @@ module _ (cutter : Cutter) (m : Move) (d k : ℕ) where
 
   pub whole_is : is_at_whole_place m d k ≡ true → Some (placed cutter (sample_centre m d k)) ≡ sample_at cutter m d k
   whole_is e = ap (λ (b : Bool). if b then Some (placed cutter (sample_centre m d k)) else raised_over (sample_centre m d k) (shift cutter (pos 1)) (inner cutter)) (sym e)
-
-  pub beside_is : (o : Option Cutter) → is_at_whole_place m d k ≡ false → inner cutter ≡ o → raised_over (sample_centre m d k) (shift cutter (pos 1)) o ≡ sample_at cutter m d k
-  beside_is o e f =
-      ap (raised_over (sample_centre m d k) (shift cutter (pos 1))) (sym f)
-      ∙ ap (λ (b : Bool). if b then Some (placed cutter (sample_centre m d k)) else raised_over (sample_centre m d k) (shift cutter (pos 1)) (inner cutter)) (sym e)

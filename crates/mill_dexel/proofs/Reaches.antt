@@ -18,9 +18,9 @@ use Rattle.mill_base.proofs.Integers.{sq-ℤ}
 use Rattle.mill_shape.proofs.CutHeights.{cut_height_is_greatest, cutter_is_wide}
 use Rattle.mill_shape.proofs.Holding.{holds_over_tip}
 use Rattle.mill_job.specs.Jobs.{IsJob}
-use Rattle.mill_job.specs.declared.job.Job.{Job}
+use Rattle.mill_job.specs.declared.fields.JobFields.{JobFields}
 use Rattle.mill_sweep.proofs.Passing.{radius_least}
-use Rattle.mill_sampling.specs.declared.sample.Placed.{Placed}
+use Rattle.mill_dexel.specs.declared.sample.Placed.{Placed}
 use Rattle.mill_dexel.specs.Tops.{top_after_sample, lowered_to}
 use Rattle.mill_dexel.specs.Cuts.{IsReachAlong, IsReachBy, IsBeyond, IsHalfChord}
 use Rattle.mill_dexel.specs.inner.Passing.{IsAway}
@@ -94,7 +94,7 @@ nearer : (q r a b y : ℤ) → q ≤ℤ r → IsBeyond r a b y → IsBeyond q a 
 nearer q r a b y less (inl h) = let l = h.first in let k = h.second in inl (record { first = omega (arith, ints); second = omega (arith, ints) })
 nearer q r a b y less (inr h) = let l = h.first in let k = h.second in inr (record { first = omega (arith, ints); second = omega (arith, ints) })
 
-module _ (job : Job) (a b y : ℤ) where
+module _ (job : JobFields) (a b y : ℤ) where
   pub away_bare : job.holder ≡ None → IsBeyond (radius_of job.cutter +ℤ pos MAX_LAST_REACH) a b y → IsAway job a b y
   away_bare none beyond = record {
     cut = beyond;
@@ -111,13 +111,13 @@ module _ (job : Job) (a b y : ℤ) where
       wide : (q r : ℤ) → q <ℤ r → (q +ℤ pos MAX_LAST_REACH) ≤ℤ (r +ℤ pos MAX_LAST_REACH)
       wide q r h = omega (h, arith, ints)
 
-pub away_same : (job : Job) (a b y c d z : ℤ) → a ≡ c → b ≡ d → y ≡ z → IsAway job a b y → IsAway job c d z
+pub away_same : (job : JobFields) (a b y c d z : ℤ) → a ≡ c → b ≡ d → y ≡ z → IsAway job a b y → IsAway job c d z
 away_same job a b y c d z ea eb ey away = rw (← ea, ← eb, ← ey) away
 
 pub half_same : (r a c s b d : ℤ) → r ≡ s → a ≡ b → c ≡ d → IsHalfChord r a c → IsHalfChord s b d
 half_same r a c s b d er ea ec half = rw (← er, ← ea, ← ec) half
 
-pub reach_same : (job : Job) (r a b s c d : ℤ) (first «end» : ℕ) → r ≡ s → a ≡ c → b ≡ d → IsReachBy job r a b first «end» → IsReachBy job s c d first «end»
+pub reach_same : (job : JobFields) (r a b s c d : ℤ) (first «end» : ℕ) → r ≡ s → a ≡ c → b ≡ d → IsReachBy job r a b first «end» → IsReachBy job s c d first «end»
 reach_same job r a b s c d first «end» er ea eb reach = record {
   within = reach.within;
   under = λ i before. let h = reach.under i before in let l = h.first in let k = h.second in record { first = omega (arith, ints); second = omega (arith, ints) };

@@ -21,9 +21,9 @@ use Rattle.mill_shape.proofs.CutHeights.{cut_height_is_greatest, cutter_is_wide}
 use Rattle.mill_sweep.specs.Leaves.{end_of}
 use Rattle.mill_sweep.proofs.Passing.{radius_least}
 use Rattle.mill_sweep.proofs.Lower.{passing_keeps_point}
-use Rattle.mill_job.specs.declared.job.Job.{Job}
-use Rattle.mill_sampling.specs.declared.sample.Placed.{Placed}
-use Rattle.mill_sampling.specs.Samples.{placed, sample_at, split_of, sample_centre, is_at_whole_place}
+use Rattle.mill_job.specs.declared.fields.JobFields.{JobFields}
+use Rattle.mill_dexel.specs.declared.sample.Placed.{Placed}
+use Rattle.mill_dexel.specs.Samples.{placed, sample_at, split_of, sample_centre, is_at_whole_place}
 use Rattle.mill_dexel.specs.Tops.{top_after_sample, top_after_move}
 use Rattle.mill_dexel.specs.Laws.{OverTopIsRemoved, PassedIsLeft}
 use Rattle.mill_dexel.proofs.InnerCerts.{nearest_square}
@@ -140,7 +140,7 @@ samples_remove cutter m d floor x y h start (suc n) top size within under =
     ]
 
 -- a move that brings a top under h removes the point at h
-pub move_removes : (job : Job) (x y top h : ℤ) (m : Move) → IsCutter job.cutter → top_after_move job x y top m <ℤ h
+pub move_removes : (job : JobFields) (x y top h : ℤ) (m : Move) → IsCutter job.cutter → top_after_move job x y top m <ℤ h
     → (top <ℤ h) ⊎ Removes job.cutter m (pos 1) (point_at x y h)
 move_removes job x y top h m size under =
     samples_remove job.cutter m (split_of job.sample m) job.floor x y h 0 (2 ^ split_of job.sample m + 1) top size (all (2 ^ split_of job.sample m + 1)) under
@@ -149,7 +149,7 @@ move_removes job x y top h m size under =
     all n = omega arith
 
 -- a list of moves that brings a top under h removes the point at h, by one of its moves
-pub moves_remove : (job : Job) (x y top h : ℤ) (moves : List Move) → IsCutter job.cutter → fold (top_after_move job x y) top moves <ℤ h
+pub moves_remove : (job : JobFields) (x y top h : ℤ) (moves : List Move) → IsCutter job.cutter → fold (top_after_move job x y) top moves <ℤ h
     → (top <ℤ h) ⊎ IsRemoved job.cutter moves (point_at x y h)
 moves_remove job x y top h [] size under = inl under
 moves_remove job x y top h (m ∷ moves) size under =

@@ -2,7 +2,7 @@
 use Rattle.std.proofs.Common.{◌≡◌, ℕ, ◌<◌, sym, subst, ap, ◌∙◌, length, get_or, arith}
 use Rattle.std.specs.Prelude.{ℤ, pos, List, [], None}
 use Rattle.mill_base.specs.declared.motion.Move.{Move}
-use Rattle.mill_job.specs.declared.job.Job.{Job}
+use Rattle.mill_job.specs.declared.fields.JobFields.{JobFields}
 use Rattle.mill_job.specs.Columns.{row_count, column_x, column_y}
 use Rattle.mill_job.specs.Jobs.{IsFrom}
 use Rattle.mill_dexel.specs.Rows.{RowState, fresh_row, restarted, top_at}
@@ -10,7 +10,7 @@ use Rattle.mill_dexel.specs.Stocks.{AreSame, IsStockOf, ShowsRow, ShowsStock, sh
 use Rattle.mill_dexel.specs.Tops.{Stock, row_tops, stock_after, top_on}
 use Rattle.mill_dexel.proofs.RowLaws.{length-row_tops, row_tops-at, tops_are_row}
 
-module _ (job : Job) (a b : Stock) (same : AreSame job a b) where
+module _ (job : JobFields) (a b : Stock) (same : AreSame job a b) where
   -- they are the same after the same moves
   pub same_after : (moves : List Move) → AreSame job (stock_after job a moves) (stock_after job b moves)
   same_after moves j i column = ap (λ (top : ℤ). top_on job (column_x job i) (column_y job j) top moves) (same j i column)
@@ -34,7 +34,7 @@ module _ (job : Job) (a b : Stock) (same : AreSame job a b) where
     rows_ok = λ j other there. let is = shows.rows_ok j other there in record { number = is.number; after = is.after ∙ same_row j there };
   }
 
-module _ (job : Job) (stock : Stock) (rows : List RowState) (shows : ShowsStock job stock rows) where
+module _ (job : JobFields) (stock : Stock) (rows : List RowState) (shows : ShowsStock job stock rows) where
   -- the stock that rows show is the one whose tops they have
   pub shown_same : AreSame job (shown_by rows) stock
   shown_same j i column =
@@ -43,10 +43,3 @@ module _ (job : Job) (stock : Stock) (rows : List RowState) (shows : ShowsStock 
 
   pub shows_shown : ShowsStock job (shown_by rows) rows
   shows_shown = shows_same job stock (shown_by rows) (same_back job (shown_by rows) stock shown_same) rows shows
-
-  -- a row of them, before the first move of another list, is that stock's
-  pub shown_row : (j : ℕ) (row : RowState) → j < length rows → row ≡ get_or rows j row → restarted row ≡ fresh_row job (shown_by rows) j
-  shown_row j row there read =
-      let is = shows_shown.rows_ok j row (let count = shows.count in omega (there, count, arith)) in
-      let own : ShowsRow job (shown_by rows) j row = subst (ShowsRow job (shown_by rows) j) (sym read) is in
-      ap (λ (n : ℕ). record (restarted row) { row = n }) own.number ∙ ap (λ (tops : List ℤ). record (fresh_row job (shown_by rows) j) { tops = tops }) own.after

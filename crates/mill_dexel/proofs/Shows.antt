@@ -3,14 +3,14 @@ use Rattle.std.specs.Prelude.{◌≡◌, ℕ, ◌-◌, ℤ, List, [], ◌∷◌,
 use Rattle.std.proofs.Common.{sym, ◌∙◌, ap, arith}
 use Rattle.std.proofs.lemmas.List.{append-nil, append_assoc}
 use Rattle.mill_base.specs.declared.motion.Move.{Move}
-use Rattle.mill_job.specs.declared.job.Job.{Job}
+use Rattle.mill_job.specs.declared.fields.JobFields.{JobFields}
 use Rattle.mill_dexel.specs.Rows.{fresh_row}
 use Rattle.mill_dexel.specs.Stocks.{ShowsRow}
 use Rattle.mill_dexel.specs.Tops.{Stock, row_tops, stock_after}
 use Rattle.mill_dexel.specs.Turns.{row_before, tops_after}
 use Rattle.mill_dexel.proofs.RowLaws.{row_tops_more}
 
-module _ (job : Job) (start : Stock) (j : ℕ) where
+module _ (job : JobFields) (start : Stock) (j : ℕ) where
   -- move by move, the tops after some moves become those after more
   tops_from : (before ms : List Move) → tops_after job j ms (row_tops job (stock_after job start before) j) ≡ row_tops job (stock_after job start (before ++ ms)) j
   tops_from before [] = ap (λ (ms : List Move). row_tops job (stock_after job start ms) j) (sym (append-nil before))

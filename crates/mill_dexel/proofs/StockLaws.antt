@@ -13,7 +13,7 @@ use Rattle.mill_base.specs.declared.points.Pt3.{Pt3}
 use Rattle.mill_base.specs.declared.motion.Move.{Move}
 use Rattle.mill_base.specs.declared.motion.Kind.{Kind}
 use Rattle.mill_base.specs.declared.motion.Kind.TheVariants.{Feed}
-use Rattle.mill_job.specs.declared.job.Job.{Job}
+use Rattle.mill_job.specs.declared.fields.JobFields.{JobFields}
 use Rattle.mill_job.specs.Columns.{IsColumn, row_count, column_count, column_y}
 use Rattle.mill_sweep.specs.Halving.{PassesPoint}
 use Rattle.mill_sweep.specs.declared.leaf.Leaf.{Leaf}
@@ -26,24 +26,24 @@ use Rattle.mill_dexel.proofs.Trials.{cutting_trial, far_passes_row}
 use Rattle.mill_dexel.proofs.RowLaws.{row_after-at, row_after_more, turned_is_row}
 
 -- a column's point at which a move of a kind is tested, by the row that it stands in
-point_is : (job : Job) (kind : Kind) (done : List Move) (j i : ℕ) (r : RowState) → IsRow job done j r → i < column_count job → row_point job kind r i ≡ tested_point job kind done j i
+point_is : (job : JobFields) (kind : Kind) (done : List Move) (j i : ℕ) (r : RowState) → IsRow job done j r → i < column_count job → row_point job kind r i ≡ tested_point job kind done j i
 point_is job kind done j i r is there = rw (is.number, is.after, row_after-at job j done i (pos 0) there) refl
 
 -- a feed passes a row as low as it may cut it, if the depth of cut is limited
-abbrev pub PassesDeep : Job → Move → RowState → Type 0
+abbrev pub PassesDeep : JobFields → Move → RowState → Type 0
 PassesDeep job m r = IsTested job Feed → PassesRow job (cutting job Feed m) r
 
 -- so it does the rows from first on, before n
-abbrev pub ArePassed : Job → Move → List RowState → ℕ → ℕ → Type 0
+abbrev pub ArePassed : JobFields → Move → List RowState → ℕ → ℕ → Type 0
 ArePassed job m rows first n = (j : ℕ) (other : RowState) → first ≤ j → j < n → PassesDeep job m (get_or rows j other)
 
 -- a row out of a move's reach stands far away from it
-out_of_reach : (job : Job) (m : Move) (first «end» j : ℕ) → IsRowReach job m.from.y m.to.y first «end» → j < row_count job → (j < first) ⊎ («end» ≤ j)
+out_of_reach : (job : JobFields) (m : Move) (first «end» j : ℕ) → IsRowReach job m.from.y m.to.y first «end» → j < row_count job → (j < first) ⊎ («end» ≤ j)
     → IsBeyond (radius_of job.cutter +ℤ pos MAX_LAST_REACH) m.from.y m.to.y (column_y job j)
 out_of_reach job m first «end» j reach there (inl before) = inl (reach.under j before)
 out_of_reach job m first «end» j reach there (inr behind) = inr (reach.over j behind there)
 
-module _ (job : Job) (m : Move) (done : List Move) (rows : List RowState) (first «end» n : ℕ) where
+module _ (job : JobFields) (m : Move) (done : List Move) (rows : List RowState) (first «end» n : ℕ) where
   -- where the rows in its reach are passed, so are all
   pub stock_passed : IsCutter job.cutter → MoveInRange m → IsRowReach job m.from.y m.to.y first «end» → IsStock job done rows → («end» ≤ n) ⊎ (length rows ≤ n) → ArePassed job m rows first n
       → m.kind ≡ Feed → ClearsColumns job done m
@@ -72,7 +72,7 @@ module _ (job : Job) (m : Move) (done : List Move) (rows : List RowState) (first
           row (inr h) (inr l) = far (out_of_reach job m first «end» j reach column.row (inr (behind l over)))
 
 -- the depth of cut is limited, and a feed cuts column i of a row too deep
-pub record IsTooDeep (job : Job) (m : Move) (r : RowState) : Type 0 where
+pub record IsTooDeep (job : JobFields) (m : Move) (r : RowState) : Type 0 where
   pub i : ℕ
   pub column : i < column_count job
   pub limited : IsTested job Feed
@@ -83,12 +83,12 @@ pub none_found : (o : Option (ℕ × Leaf)) → is_some o ≡ false → o ≡ No
 none_found None e = refl
 none_found (Some s) e = cc
 
-pub too_deep : (job : Job) (m : Move) (r : RowState) (o : Option (ℕ × Leaf)) → is_some o ≡ true → IfSome o (λ s. IsTested job Feed) → IfSome o (λ s. IsFirstStop job (cutting job Feed m) r s.0 s.1) → IsTooDeep job m r
+pub too_deep : (job : JobFields) (m : Move) (r : RowState) (o : Option (ℕ × Leaf)) → is_some o ≡ true → IfSome o (λ s. IsTested job Feed) → IfSome o (λ s. IsFirstStop job (cutting job Feed m) r s.0 s.1) → IsTooDeep job m r
 too_deep job m r None e tested first = cc
 too_deep job m r (Some s) e tested first = record { i = s.0; column = first.column; limited = tested; stops = first.fails.fails }
 
 -- where a feed cuts a column of one of the stock's rows too deep, it doesn't pass each column
-pub stock_stops : (job : Job) (m : Move) (done : List Move) (rows : List RowState) (j : ℕ) (r : RowState) → IsStock job done rows → j < length rows → r ≡ get_or rows j r → IsTooDeep job m r
+pub stock_stops : (job : JobFields) (m : Move) (done : List Move) (rows : List RowState) (j : ℕ) (r : RowState) → IsStock job done rows → j < length rows → r ≡ get_or rows j r → IsTooDeep job m r
     → m.kind ≡ Feed → ¬ ClearsColumns job done m
 stock_stops job m done rows j r stock there read deep feed clears =
     deep.stops (subst (λ (p : Pt3). PassesPoint job.cutter m p) (sym (point_is job Feed done j deep.i r is deep.column))
@@ -104,7 +104,7 @@ this_one : (n j : ℕ) → n ≤ j → j < n + 1 → n ≡ j
 this_one n j h l = omega (arith, h, l)
 
 -- one row more is passed
-pub passed_more : (job : Job) (m : Move) (rows : List RowState) (first n : ℕ) (r : RowState) → n < length rows → r ≡ get_or rows n r → PassesDeep job m r → ArePassed job m rows first n → ArePassed job m rows first (n + 1)
+pub passed_more : (job : JobFields) (m : Move) (rows : List RowState) (first n : ℕ) (r : RowState) → n < length rows → r ≡ get_or rows n r → PassesDeep job m r → ArePassed job m rows first n → ArePassed job m rows first (n + 1)
 passed_more job m rows first n r there read passes so_far = λ j other from to. by j other (cases_lt j n) from to
   where
     by : (j : ℕ) (other : RowState) → (j < n) ⊎ (n ≤ j) → first ≤ j → j < n + 1 → PassesDeep job m (get_or rows j other)
@@ -124,11 +124,11 @@ passed_over count «end» last n e h = by (cases_lt count «end»)
 -- ---- cuts
 
 -- a row after one move more
-abbrev pub cut_by : Job → Move → RowState → RowState
+abbrev pub cut_by : JobFields → Move → RowState → RowState
 cut_by job m r = record r { tops = tops_after_move job r.row 0 m r.tops }
 
 -- the rows from first on, before n, are cut by the move, and the others are as they were
-pub record AreCutTo (job : Job) (m : Move) (first n : ℕ) (old new : List RowState) : Type 0 where
+pub record AreCutTo (job : JobFields) (m : Move) (first n : ℕ) (old new : List RowState) : Type 0 where
   pub count : length new ≡ length old
   pub cut : (j : ℕ) (other : RowState) → first ≤ j → j < n → j < length old → get_or new j other ≡ cut_by job m (get_or old j other)
   pub rest : (j : ℕ) (other : RowState) → (j < first) ⊎ (n ≤ j) → get_or new j other ≡ get_or old j other
@@ -139,7 +139,7 @@ beyond_radius r a b y (inl h) = let l = h.first in let k = h.second in inl (reco
 beyond_radius r a b y (inr h) = let l = h.first in let k = h.second in inr (record { first = omega (arith, ints); second = omega (arith, ints) })
 
 -- the rows stay the job's
-pub cut_are_rows : (job : Job) (m : Move) (first n : ℕ) (old new : List RowState) → AreCutTo job m first n old new → All (IsRowOf job) old → All (IsRowOf job) new
+pub cut_are_rows : (job : JobFields) (m : Move) (first n : ℕ) (old new : List RowState) → AreCutTo job m first n old new → All (IsRowOf job) old → All (IsRowOf job) new
 cut_are_rows job m first n old new cut rows = λ j other within. by j other (subst (λ (k : ℕ). j < k) cut.count within) (cases_lt j first) (cases_lt j n)
   where
     by : (j : ℕ) (other : RowState) → j < length old → (j < first) ⊎ (first ≤ j) → (j < n) ⊎ (n ≤ j) → IsRowOf job (get_or new j other)
@@ -147,7 +147,7 @@ cut_are_rows job m first n old new cut rows = λ j other within. by j other (sub
     by j other there (inr h) (inl l) = turned_is_row job (get_or old j other) (get_or new j other) m (cut.cut j other h l there) (rows j other there)
     by j other there (inr h) (inr l) = subst (IsRowOf job) (sym (cut.rest j other (inr l))) (rows j other there)
 
-module _ (job : Job) (m : Move) (first «end» n : ℕ) (old new : List RowState) (over : («end» ≤ n) ⊎ (length old ≤ n)) (cut : AreCutTo job m first n old new) where
+module _ (job : JobFields) (m : Move) (first «end» n : ℕ) (old new : List RowState) (over : («end» ≤ n) ⊎ (length old ≤ n)) (cut : AreCutTo job m first n old new) where
   -- once the rows in the move's reach are cut, the stock is as after one move more
   pub stock_cut : IsCutter job.cutter → IsRowReach job m.from.y m.to.y first «end» → (done : List Move) → IsStock job done old → IsStock job (done ++ m ∷ []) new
   stock_cut size reach done stock = record {
@@ -188,13 +188,13 @@ module _ (job : Job) (m : Move) (first «end» n : ℕ) (old new : List RowState
 -- ---- the uncut stock
 
 -- the rows are the uncut stock's from the first on, before row n
-pub record AreUncutTo (job : Job) (n : ℕ) (rows : List RowState) : Type 0 where
+pub record AreUncutTo (job : JobFields) (n : ℕ) (rows : List RowState) : Type 0 where
   pub count : length rows ≡ n
   pub uncut : (j : ℕ) (other : RowState) → j < n → get_or rows j other ≡ uncut_row job j
   pub rows_ok : All (IsRowOf job) rows
 
 -- one row more
-pub uncut_more : (job : Job) (n : ℕ) (rows : List RowState) (r : RowState) → AreUncutTo job n rows → IsRowOf job r → r ≡ uncut_row job n → AreUncutTo job (n + 1) (rows ++ r ∷ [])
+pub uncut_more : (job : JobFields) (n : ℕ) (rows : List RowState) (r : RowState) → AreUncutTo job n rows → IsRowOf job r → r ≡ uncut_row job n → AreUncutTo job (n + 1) (rows ++ r ∷ [])
 uncut_more job n rows r so_far is_row is = record {
   count = length-append rows (r ∷ []) ∙ ap (λ (k : ℕ). k + 1) so_far.count;
   uncut = λ j other below. by j other (cases_lt j n) below;
@@ -212,7 +212,7 @@ uncut_more job n rows r so_far is_row is = record {
         (subst (λ (k : ℕ). get_or (rows ++ r ∷ []) k other ≡ uncut_row job n) so_far.count (get_or-append_seam rows r [] other ∙ is))
 
 -- all of them are the stock before the first move
-pub stock_uncut : (job : Job) (n : ℕ) (rows : List RowState) → n ≡ row_count job → AreUncutTo job n rows → IsStock job [] rows
+pub stock_uncut : (job : JobFields) (n : ℕ) (rows : List RowState) → n ≡ row_count job → AreUncutTo job n rows → IsStock job [] rows
 stock_uncut job n rows all so_far = record {
   count = so_far.count ∙ all;
   rows_ok = λ j other there. subst (IsRow job [] j) (sym (so_far.uncut j other (subst (λ (k : ℕ). j < k) (sym all) there))) (record { number = refl; after = refl });

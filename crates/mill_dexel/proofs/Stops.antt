@@ -4,7 +4,7 @@ use Rattle.std.specs.Prelude.{Option, Some, None, IfSome, MatchOption}
 use Rattle.mill_base.specs.declared.motion.Move.{Move}
 use Rattle.mill_base.specs.declared.motion.Kind.{Kind}
 use Rattle.mill_base.specs.declared.tool.Holder.{Holder}
-use Rattle.mill_job.specs.declared.job.Job.{Job}
+use Rattle.mill_job.specs.declared.fields.JobFields.{JobFields}
 use Rattle.mill_sweep.specs.declared.leaf.Leaf.{Leaf}
 use Rattle.mill_dexel.specs.Tops.{IsTested}
 use Rattle.mill_dexel.specs.Rows.{RowState, cutting, holding, PassesRow, HolderPassesRow, HolderClearsRow, IsFirstStop, IsColumnBlocked, IsFirstHolderStop}
@@ -14,7 +14,7 @@ use Rattle.mill_dexel.specs.declared.fail.RowTest.{RowTest}
 use Rattle.mill_dexel.specs.declared.fail.RowTest.TheVariants as test
 
 -- what the test of a kind finds, for a move of that kind
-module _ (job : Job) (r : RowState) (m : Move) (kind : Kind) (is : m.kind ≡ kind) where
+module _ (job : JobFields) (r : RowState) (m : Move) (kind : Kind) (is : m.kind ≡ kind) where
   abbrev Finds : Kind → Option (ℕ × Leaf) → Type 0
   Finds k o = MatchOption o (IsTested job k → PassesRow job (cutting job k m) r) (λ s. IsTested job k × IsFirstStop job (cutting job k m) r s.0 s.1 × IsColumnBlocked job (cutting job k m) r s.0 s.1)
 
@@ -40,21 +40,21 @@ module _ (job : Job) (r : RowState) (m : Move) (kind : Kind) (is : m.kind ≡ ki
       found (Some s) none tested first blocked = (tested, first, blocked)
 
 -- what a job's holder finds
-pub held_found : (job : Job) (r : RowState) (m : Move) (holder : Holder) (o : Option (ℕ × Leaf)) → job.holder ≡ Some holder
+pub held_found : (job : JobFields) (r : RowState) (m : Move) (holder : Holder) (o : Option (ℕ × Leaf)) → job.holder ≡ Some holder
     → MatchOption o (HolderPassesRow holder job r m) (λ s. IsFirstStop job (holding holder m) r s.0 s.1) → IfSome o (λ s. IsColumnBlocked job (holding holder m) r s.0 s.1)
     → MatchOption o (HolderClearsRow job r m) (λ s. IsFirstHolderStop job r m s.0 s.1)
 held_found job r m holder None there passes none = subst (λ (h : Option Holder). IfSome h (λ holder. HolderPassesRow holder job r m)) (sym there) passes
 held_found job r m holder (Some s) there first blocked = record { holder = holder; there = there; column = first; blocked = blocked }
 
 -- a test that fails isn't passed, so a move that a row stops doesn't pass it
-pub holder_stop_fails : (job : Job) (r : RowState) (m : Move) (i : ℕ) (leaf : Leaf) → IsFirstHolderStop job r m i leaf → ¬ HolderClearsRow job r m
+pub holder_stop_fails : (job : JobFields) (r : RowState) (m : Move) (i : ℕ) (leaf : Leaf) → IsFirstHolderStop job r m i leaf → ¬ HolderClearsRow job r m
 holder_stop_fails job r m i leaf stop clears =
     stop.column.fails.fails (subst (λ (h : Option Holder). IfSome h (λ holder. HolderPassesRow holder job r m)) stop.there clears i stop.column.column)
 
-pub cut_stop_fails : (job : Job) (r : RowState) (m : Move) (i : ℕ) (leaf : Leaf) → CutStopsAt job r m i leaf → ¬ CutClearsRow job r m
+pub cut_stop_fails : (job : JobFields) (r : RowState) (m : Move) (i : ℕ) (leaf : Leaf) → CutStopsAt job r m i leaf → ¬ CutClearsRow job r m
 cut_stop_fails job r m i leaf stop clears = stop.column.fails.fails (clears stop.tested i stop.column.column)
 
-pub stop_fails : (job : Job) (r : RowState) (m : Move) (fail : RowFail) → StopsRow job r m fail → ¬ ClearsRow job r m
+pub stop_fails : (job : JobFields) (r : RowState) (m : Move) (fail : RowFail) → StopsRow job r m fail → ¬ ClearsRow job r m
 stop_fails job r m fail stop clears = by fail.test stop.stops
   where
     by : (t : RowTest) → StopsAt t job r m fail.col fail.leaf → ⊥

@@ -5,10 +5,10 @@ use Rattle.std.proofs.lemmas.Int.{ints}
 use Rattle.mill_base.specs.Numbers.{lesser, greater}
 use Rattle.mill_base.specs.Sizes.{cut_height_of}
 use Rattle.mill_base.specs.declared.motion.Move.{Move}
-use Rattle.mill_job.specs.declared.job.Job.{Job}
+use Rattle.mill_job.specs.declared.fields.JobFields.{JobFields}
 use Rattle.mill_job.specs.Jobs.{IsFrom}
-use Rattle.mill_sampling.specs.Samples.{samples}
-use Rattle.mill_sampling.specs.declared.sample.Placed.{Placed}
+use Rattle.mill_dexel.specs.Samples.{samples}
+use Rattle.mill_dexel.specs.declared.sample.Placed.{Placed}
 use Rattle.mill_job.specs.Columns.{column_x, column_y}
 use Rattle.mill_dexel.specs.Stocks.{IsStockOf}
 use Rattle.mill_dexel.specs.Tops.{Stock, lowered_to, stock_after, top_after_sample, top_after_move, top_after, uncut}
@@ -35,22 +35,22 @@ samples_stay floor high x y top [] stays = stays
 samples_stay floor high x y top (s ∷ places) stays =
     samples_stay floor high x y (top_after_sample floor x y top s) places (sample_stays floor high x y top s stays)
 
-pub move_stays : (job : Job) (x y top : ℤ) (m : Move) → IsFrom job.floor job.top top → IsFrom job.floor job.top (top_after_move job x y top m)
+pub move_stays : (job : JobFields) (x y top : ℤ) (m : Move) → IsFrom job.floor job.top top → IsFrom job.floor job.top (top_after_move job x y top m)
 move_stays job x y top m stays = samples_stay job.floor job.top x y top (samples job.cutter job.sample m) stays
 
-pub moves_stay : (job : Job) (x y top : ℤ) (moves : List Move) → IsFrom job.floor job.top top → IsFrom job.floor job.top (fold (top_after_move job x y) top moves)
+pub moves_stay : (job : JobFields) (x y top : ℤ) (moves : List Move) → IsFrom job.floor job.top top → IsFrom job.floor job.top (fold (top_after_move job x y) top moves)
 moves_stay job x y top [] stays = stays
 moves_stay job x y top (m ∷ moves) stays = moves_stay job x y (top_after_move job x y top m) moves (move_stays job x y top m stays)
 
 -- a top stays from the floor to the uncut stock's top
-pub top_after_stays : (job : Job) (x y : ℤ) (moves : List Move) → job.floor ≤ℤ job.top → IsFrom job.floor job.top (top_after job x y moves)
+pub top_after_stays : (job : JobFields) (x y : ℤ) (moves : List Move) → job.floor ≤ℤ job.top → IsFrom job.floor job.top (top_after job x y moves)
 top_after_stays job x y moves order = moves_stay job x y job.top moves (record { low = order; high = omega (arith, ints) })
 
 -- so does each top of a stock
-pub stock_stays : (job : Job) (stock : Stock) (moves : List Move) → IsStockOf job stock → IsStockOf job (stock_after job stock moves)
+pub stock_stays : (job : JobFields) (stock : Stock) (moves : List Move) → IsStockOf job stock → IsStockOf job (stock_after job stock moves)
 stock_stays job stock moves of_job j i column = moves_stay job (column_x job i) (column_y job j) (stock j i) moves (of_job j i column)
 
-pub uncut_stays : (job : Job) → job.floor ≤ℤ job.top → IsStockOf job (uncut job)
+pub uncut_stays : (job : JobFields) → job.floor ≤ℤ job.top → IsStockOf job (uncut job)
 uncut_stays job order j i column = record { low = order; high = omega (arith, ints) }
 
 -- a top that is lowered under h was under h before, or the cut is under h

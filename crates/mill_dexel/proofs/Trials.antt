@@ -12,7 +12,7 @@ use Rattle.mill_base.specs.declared.motion.Kind.{Kind}
 use Rattle.mill_base.specs.declared.motion.Move.{Move}
 use Rattle.mill_base.specs.declared.tool.Holder.{Holder}
 use Rattle.mill_job.specs.Columns.{column_x, column_y}
-use Rattle.mill_job.specs.declared.job.Job.{Job}
+use Rattle.mill_job.specs.declared.fields.JobFields.{JobFields}
 use Rattle.mill_sweep.specs.Halving.{PassesPoint}
 use Rattle.mill_sweep.specs.Lifted.{IsLiftedMove}
 use Rattle.mill_sweep.proofs.Far.{lifted_far_passes}
@@ -27,13 +27,13 @@ pub record IsTrial (test : Test) : Type 0 where
   pub size : IsCutter test.solid
   pub range : IsLiftedMove test.move
 
-pub cutting_trial : (job : Job) (kind : Kind) (m : Move) → IsCutter job.cutter → MoveInRange m → IsTrial (cutting job kind m)
+pub cutting_trial : (job : JobFields) (kind : Kind) (m : Move) → IsCutter job.cutter → MoveInRange m → IsTrial (cutting job kind m)
 cutting_trial job kind m size range = record { size = size; range = in_lift m range }
 
 pub holding_trial : (holder : Holder) (m : Move) → IsHolder holder → MoveInRange m → IsTrial (holding holder m)
 holding_trial holder m ok range = record { size = ok.radius; range = lifted_in_lift holder m ok range }
 
-module _ (job : Job) (test : Test) (r : RowState) (trial : IsTrial test) where
+module _ (job : JobFields) (test : Test) (r : RowState) (trial : IsTrial test) where
   -- a test passes a point that is no higher than both ends of its move
   low_point : (x y z : ℤ) → z ≤ℤ test.move.from.z → z ≤ℤ test.move.to.z → PassesPoint test.solid test.move (point_at x y z)
   low_point x y z from to =
@@ -79,11 +79,11 @@ module _ (job : Job) (test : Test) (r : RowState) (trial : IsTrial test) where
       over a b c d h e k = omega (h, e, k, arith, ints)
 
 -- where the columns before one are passed, and it isn't before the end of those that are tried, so is the row
-pub passes_all : (job : Job) (test : Test) (r : RowState) (first «end» upto : ℕ) → PassesBeside job test r first «end» → «end» ≤ upto → ((k : ℕ) → k < upto → PassesAt job test r k) → PassesRow job test r
+pub passes_all : (job : JobFields) (test : Test) (r : RowState) (first «end» upto : ℕ) → PassesBeside job test r first «end» → «end» ≤ upto → ((k : ℕ) → k < upto → PassesAt job test r k) → PassesRow job test r
 passes_all job test r first «end» upto beside past before k within = elim (cases_lt k upto) [
   | inl early ↦ before k early
   | inr late ↦ beside.behind k (omega (past, late, arith)) within
 ]
 
-pub passes_none_tried : (job : Job) (test : Test) (r : RowState) (first «end» : ℕ) → PassesBeside job test r first «end» → «end» ≤ first → PassesRow job test r
+pub passes_none_tried : (job : JobFields) (test : Test) (r : RowState) (first «end» : ℕ) → PassesBeside job test r first «end» → «end» ≤ first → PassesRow job test r
 passes_none_tried job test r first «end» beside none = passes_all job test r first «end» first beside none beside.before

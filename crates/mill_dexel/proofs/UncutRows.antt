@@ -19,7 +19,7 @@ use Rattle.mill_base.specs.declared.motion.Move.{Move}
 use Rattle.mill_base.specs.declared.motion.Kind.{Kind}
 use Rattle.mill_base.specs.declared.motion.Kind.TheVariants.{Rapid, Feed}
 use Rattle.mill_base.specs.declared.unit.Unit.{Unit}
-use Rattle.mill_job.specs.declared.job.Job.{Job}
+use Rattle.mill_job.specs.declared.fields.JobFields.{JobFields}
 use Rattle.mill_job.specs.Columns.{row_count, column_count, column_x, column_y}
 use Rattle.mill_job.specs.Jobs.{IsJob, IsFrom}
 use Rattle.mill_sweep.specs.Halving.{Passes}
@@ -46,19 +46,19 @@ between_within unit low high z low_ok high_ok from =
     small : (a b c : ℤ) → nat_abs a ≤ MAX_COORDINATE → nat_abs b ≤ MAX_COORDINATE → a ≤ℤ c → c ≤ℤ b → nat_abs c ≤ MAX_COORDINATE
     small a b c h g l k = omega (arith, ints)
 
-row_within : (job : Job) (j : ℕ) → IsJob job → j < row_count job → Within MAX_COORDINATE (column_y job j)
+row_within : (job : JobFields) (j : ℕ) → IsJob job → j < row_count job → Within MAX_COORDINATE (column_y job j)
 row_within job j is_job there =
     between_within job.unit job.area.y0 job.area.y1 (column_y job j) is_job.y0_ok is_job.y1_ok (steps_within j job.area.y0 job.area.y1 job.pitch is_job.y_order is_job.pitch_ok.low there)
 
 -- a move is tested from the floor to the top, and the higher the top, the higher
-pub tested_from_floor : (job : Job) (kind : Kind) (top : ℤ) → job.floor ≤ℤ top → (pos 0) ≤ℤ job.max_cut → IsFrom job.floor top (tested_height job kind top)
+pub tested_from_floor : (job : JobFields) (kind : Kind) (top : ℤ) → job.floor ≤ℤ top → (pos 0) ≤ℤ job.max_cut → IsFrom job.floor top (tested_height job kind top)
 tested_from_floor job Rapid top low some = record { low = low; high = omega (arith, ints) }
 tested_from_floor job Feed top low some = record { low = greater_left job.floor (top -ℤ job.max_cut); high = greater_least job.floor (top -ℤ job.max_cut) top low (less top job.max_cut some) }
   where
     less : (a b : ℤ) → (pos 0) ≤ℤ b → (a -ℤ b) ≤ℤ a
     less a b h = omega (arith, ints)
 
-tested_higher : (job : Job) (kind : Kind) (low high : ℤ) → low ≤ℤ high → tested_height job kind low ≤ℤ tested_height job kind high
+tested_higher : (job : JobFields) (kind : Kind) (low high : ℤ) → low ≤ℤ high → tested_height job kind low ≤ℤ tested_height job kind high
 tested_higher job Rapid low high order = order
 tested_higher job Feed low high order =
     greater_least job.floor (low -ℤ job.max_cut) (greater job.floor (high -ℤ job.max_cut)) (greater_left job.floor (high -ℤ job.max_cut))
@@ -68,7 +68,7 @@ tested_higher job Feed low high order =
     under a b cut c h k = omega (arith, ints)
 
 -- so the height is in range
-tested_within : (job : Job) (kind : Kind) (top : ℤ) → IsJob job → IsFrom job.floor job.top top → Within MAX_COORDINATE (tested_height job kind top)
+tested_within : (job : JobFields) (kind : Kind) (top : ℤ) → IsJob job → IsFrom job.floor job.top top → Within MAX_COORDINATE (tested_height job kind top)
 tested_within job kind top is_job stock =
     let tested = tested_from_floor job kind top stock.low is_job.max_cut_ok.low in
     between_within job.unit job.floor job.top (tested_height job kind top) is_job.floor_ok is_job.top_ok (narrow job.floor job.top top (tested_height job kind top) tested.low tested.high stock.high)
@@ -77,7 +77,7 @@ tested_within job kind top is_job stock =
     narrow a b c z h k l = record { low = h; high = omega (arith, ints) }
 
 -- the height at which a feed is tested, as the code has it
-pub limit_stored : (job : Job) (top m : ℤ) → IsJob job → IsFrom job.floor job.top top → m ≡ int_max (stored w32 job.floor) (stored w32 (stored w32 top -ℤ stored w32 job.max_cut)) → stored w32 m ≡ cut_limit job top
+pub limit_stored : (job : JobFields) (top m : ℤ) → IsJob job → IsFrom job.floor job.top top → m ≡ int_max (stored w32 job.floor) (stored w32 (stored w32 top -ℤ stored w32 job.max_cut)) → stored w32 m ≡ cut_limit job top
 limit_stored job top m is_job stock is =
     kept w32 m MAX_COORDINATE (subst (λ (v : ℤ). nat_abs v ≤ MAX_COORDINATE) (sym value) (tested_within job Feed top is_job stock).within) refl
     ∙ value
@@ -102,14 +102,14 @@ limit_stored job top m is_job stock is =
         (within job.max_cut (record { within = depth (greatest_of job.unit) job.max_cut is_job.max_cut_ok }))
 
 -- the tops of a row are from the floor to the uncut stock's top
-pub top_stays : (job : Job) (r : RowState) (i : ℕ) → IsRowOf job r → i < column_count job → IsFrom job.floor job.top (top_at r.tops i)
+pub top_stays : (job : JobFields) (r : RowState) (i : ℕ) → IsRowOf job r → i < column_count job → IsFrom job.floor job.top (top_at r.tops i)
 top_stays job r i is_row there = All-get_or (IsFrom job.floor job.top) r.tops i (pos 0) in_row is_row.in_stock
   where
     in_row : i < length r.tops
     in_row = let e = is_row.columns in omega arith
 
 -- the points of a row at which a move is tested, and those of the uncut row, are in range
-pub tested_in_range : (job : Job) (kind : Kind) (r : RowState) (i : ℕ) → IsJob job → IsRowOf job r → i < column_count job → IsInRange (row_point job kind r i)
+pub tested_in_range : (job : JobFields) (kind : Kind) (r : RowState) (i : ℕ) → IsJob job → IsRowOf job r → i < column_count job → IsInRange (row_point job kind r i)
 tested_in_range job kind r i is_job is_row there = record {
   x_ok = between_within job.unit job.area.x0 job.area.x1 (column_x job i) is_job.x0_ok is_job.x1_ok (steps_within i job.area.x0 job.area.x1 job.pitch is_job.x_order is_job.pitch_ok.low there);
   y_ok = row_within job r.row is_job is_row.there;
@@ -117,7 +117,7 @@ tested_in_range job kind r i is_job is_row there = record {
 }
 
 -- the top that the code reads
-pub top_read : (job : Job) (r : RowState) (i : ℕ) (top : ℤ) → IsJob job → IsRowOf job r → i < column_count job → top ≡ get_or r.tops i top → stored w32 top ≡ top_at r.tops i
+pub top_read : (job : JobFields) (r : RowState) (i : ℕ) (top : ℤ) → IsJob job → IsRowOf job r → i < column_count job → top ≡ get_or r.tops i top → stored w32 top ≡ top_at r.tops i
 top_read job r i top is_job is_row there read =
     kept w32 top MAX_COORDINATE (subst (λ (v : ℤ). nat_abs v ≤ MAX_COORDINATE) (sym value) (between_within job.unit job.floor job.top (top_at r.tops i) is_job.floor_ok is_job.top_ok (top_stays job r i is_row there)).within) refl
     ∙ value
@@ -128,7 +128,7 @@ top_read job r i top is_job is_row there read =
     value : top ≡ top_at r.tops i
     value = read ∙ get_or_default r.tops i top (pos 0) in_row
 
-pub uncut_in_range : (job : Job) (kind : Kind) (j : ℕ) → IsJob job → j < row_count job → TriInRange (uncut_tri job kind j)
+pub uncut_in_range : (job : JobFields) (kind : Kind) (j : ℕ) → IsJob job → j < row_count job → TriInRange (uncut_tri job kind j)
 uncut_in_range job kind j is_job there = record { a_ok = west; b_ok = east; c_ok = east }
   where
     y_in : Within MAX_COORDINATE (column_y job j)
@@ -144,7 +144,7 @@ uncut_in_range job kind j is_job there = record { a_ok = west; b_ok = east; c_ok
     east = record { x_ok = within_of_unit job.unit job.area.x1 is_job.x1_ok; y_ok = y_in; z_ok = height_in }
 
 -- a row is tested at most as high as the uncut row, and its columns stand within the stock
-pub uncut_passes : (job : Job) (kind : Kind) (r : RowState) (m : Move) → IsJob job → IsRowOf job r → Passes job.cutter m (uncut_tri job kind r.row) → PassesRow job (cutting job kind m) r
+pub uncut_passes : (job : JobFields) (kind : Kind) (r : RowState) (m : Move) → IsJob job → IsRowOf job r → Passes job.cutter m (uncut_tri job kind r.row) → PassesRow job (cutting job kind m) r
 uncut_passes job kind r m is_job is_row passes i there =
     line_passes job.cutter m job.area.x0 job.area.x1 (column_y job r.row) (tested_height job kind job.top) (column_x job i) (tested_height job kind (top_at r.tops i))
     (steps_within i job.area.x0 job.area.x1 job.pitch is_job.x_order is_job.pitch_ok.low there)
@@ -152,7 +152,7 @@ uncut_passes job kind r m is_job is_row passes i there =
     passes
 
 -- so it passes every column of a row where even the uncut row is tested no higher than both ends of the move
-pub low_passes_row : (job : Job) (kind : Kind) (r : RowState) (m : Move) → IsJob job → IsRowOf job r → MoveInRange m
+pub low_passes_row : (job : JobFields) (kind : Kind) (r : RowState) (m : Move) → IsJob job → IsRowOf job r → MoveInRange m
     → tested_height job kind job.top ≤ℤ m.from.z → tested_height job kind job.top ≤ℤ m.to.z → PassesRow job (cutting job kind m) r
 low_passes_row job kind r m is_job is_row range from to i there =
     low_passes job (cutting job kind m) r (cutting_trial job kind m is_job.cutter_ok range) i (under m.from.z from) (under m.to.z to)

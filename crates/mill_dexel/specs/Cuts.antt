@@ -4,20 +4,20 @@ use Rattle.mill_base.specs.Numbers.{square}
 use Rattle.mill_base.specs.declared.limits.TheConstants.{MAX_LAST_REACH}
 use Rattle.mill_base.specs.Sizes.{radius_of}
 use Rattle.mill_base.specs.declared.points.Pt3.{Pt3}
-use Rattle.mill_job.specs.declared.job.Job.{Job}
+use Rattle.mill_job.specs.declared.fields.JobFields.{JobFields}
 use Rattle.mill_job.specs.Columns.{row_count, column_count, column_x, column_y}
-use Rattle.mill_sampling.specs.declared.sample.Placed.{Placed}
-use Rattle.mill_sampling.specs.Samples.{placed}
+use Rattle.mill_dexel.specs.declared.sample.Placed.{Placed}
+use Rattle.mill_dexel.specs.Samples.{placed}
 use Rattle.mill_dexel.specs.Tops.{top_after_sample}
 use Rattle.mill_dexel.specs.Rows.{top_at}
 
 -- each top of row j is lowered to where the sample's cutter, if there is one, cuts its column
-pub record IsCutBy (job : Job) (j : ℕ) (s : Option Placed) (old new : List ℤ) : Type 0 where
+pub record IsCutBy (job : JobFields) (j : ℕ) (s : Option Placed) (old new : List ℤ) : Type 0 where
   pub columns : length new ≡ length old
   pub each : (i : ℕ) → i < length old → top_at new i ≡ top_after_sample job.floor (column_x job i) (column_y job j) (top_at old i) s
 
 -- the tops of row j aren't lowered by the job's cutter with its tip at this point: it has cut there, or is too far away
-abbrev pub IsCutAt : Job → ℕ → Pt3 → List ℤ → Type 0
+abbrev pub IsCutAt : JobFields → ℕ → Pt3 → List ℤ → Type 0
 IsCutAt job j tip tops = IsCutBy job j (Some (placed job.cutter tip)) tops tops
 
 -- x is at least r under, or over, both a and b
@@ -36,15 +36,15 @@ pub record IsReachAlong (start pitch : ℤ) (count : ℕ) (r a b : ℤ) (first �
   pub over : (i : ℕ) → «end» ≤ i → i < count → IsOverBy r a b (start +ℤ pos i *ℤ pitch)
 
 -- so are all columns of a row in x
-abbrev pub IsReachBy : Job → ℤ → ℤ → ℤ → ℕ → ℕ → Type 0
+abbrev pub IsReachBy : JobFields → ℤ → ℤ → ℤ → ℕ → ℕ → Type 0
 IsReachBy job r a b first «end» = IsReachAlong job.area.x0 job.pitch (column_count job) r a b first «end»
 
 -- the same by the radius of the job's cutter and the last reach, beyond which a move passes each column
-abbrev pub IsReach : Job → ℤ → ℤ → ℕ → ℕ → Type 0
+abbrev pub IsReach : JobFields → ℤ → ℤ → ℕ → ℕ → Type 0
 IsReach job a b first «end» = IsReachBy job (radius_of job.cutter +ℤ pos MAX_LAST_REACH) a b first «end»
 
 -- and by that distance the rows in y
-abbrev pub IsRowReach : Job → ℤ → ℤ → ℕ → ℕ → Type 0
+abbrev pub IsRowReach : JobFields → ℤ → ℤ → ℕ → ℕ → Type 0
 IsRowReach job a b first «end» = IsReachAlong job.area.y0 job.pitch (row_count job) (radius_of job.cutter +ℤ pos MAX_LAST_REACH) a b first «end»
 
 -- y is at least r away from the interval from a to b

@@ -9,7 +9,7 @@ use Rattle.mill_base.specs.declared.motion.Move.{Move}
 use Rattle.mill_base.specs.declared.motion.Kind.{Kind}
 use Rattle.mill_base.specs.declared.motion.Kind.TheVariants.{Rapid}
 use Rattle.mill_base.specs.declared.tool.Holder.{Holder}
-use Rattle.mill_job.specs.declared.job.Job.{Job}
+use Rattle.mill_job.specs.declared.fields.JobFields.{JobFields}
 use Rattle.mill_job.specs.Columns.{row_count, column_count, column_x, column_y}
 use Rattle.mill_job.specs.Jobs.{IsFrom}
 use Rattle.mill_sweep.specs.Leaves.{span_of}
@@ -27,11 +27,11 @@ pub record RowState : Type 0 where
   pub failed : Option RowFail
 
 -- row j of a stock, before the first move
-abbrev pub fresh_row : Job → Stock → ℕ → RowState
+abbrev pub fresh_row : JobFields → Stock → ℕ → RowState
 fresh_row job stock j = record { row = j; tops = row_tops job stock j; done = 0; failed = None }
 
 -- row j of the uncut stock, before the first move
-abbrev pub uncut_row : Job → ℕ → RowState
+abbrev pub uncut_row : JobFields → ℕ → RowState
 uncut_row job j = fresh_row job (uncut job) j
 
 -- a row with the same tops before the first move of another list
@@ -43,17 +43,17 @@ abbrev pub top_at : List ℤ → ℕ → ℤ
 top_at tops i = slice_index_or tops i (pos 0)
 
 -- the row is one of the job's, with a top for each column, from the floor to the uncut stock's top
-pub record IsRowOf (job : Job) (r : RowState) : Type 0 where
+pub record IsRowOf (job : JobFields) (r : RowState) : Type 0 where
   pub there : r.row < row_count job
   pub columns : length r.tops ≡ column_count job
   pub in_stock : All (IsFrom job.floor job.top) r.tops
 
 -- the point of column i at which a move of this kind is tested
-abbrev pub row_point : Job → Kind → RowState → ℕ → Pt3
+abbrev pub row_point : JobFields → Kind → RowState → ℕ → Pt3
 row_point job kind r i = point_at (column_x job i) (column_y job r.row) (tested_height job kind (top_at r.tops i))
 
 -- the points of the uncut row at which a move of this kind is tested, as a flat triangle, from its least x to its greatest
-abbrev pub uncut_tri : Job → Kind → ℕ → Tri
+abbrev pub uncut_tri : JobFields → Kind → ℕ → Tri
 uncut_tri job kind j = record {
   a = point_at job.area.x0 (column_y job j) (tested_height job kind job.top);
   b = point_at job.area.x1 (column_y job j) (tested_height job kind job.top);
@@ -69,7 +69,7 @@ pub record Test : Type 0 where
   pub kind : Kind
 
 -- the cutter's test, as a move of this kind is tested
-abbrev pub cutting : Job → Kind → Move → Test
+abbrev pub cutting : JobFields → Kind → Move → Test
 cutting job kind m = record { solid = job.cutter; move = m; kind = kind }
 
 -- the holder's test of a move of the cutter under it: its solid, over the cutter's tip by the stickout, at the columns' tops
@@ -77,33 +77,33 @@ abbrev pub holding : Holder → Move → Test
 holding holder m = record { solid = solid_of holder; move = lifted holder m; kind = Rapid }
 
 -- the test passes column i, at the point at which a move of its kind is tested
-abbrev pub PassesAt : Job → Test → RowState → ℕ → Type 0
+abbrev pub PassesAt : JobFields → Test → RowState → ℕ → Type 0
 PassesAt job test r i = PassesPoint test.solid test.move (row_point job test.kind r i)
 
 -- so it passes each column of the row
-abbrev pub PassesRow : Job → Test → RowState → Type 0
+abbrev pub PassesRow : JobFields → Test → RowState → Type 0
 PassesRow job test r = (i : ℕ) → i < column_count job → PassesAt job test r i
 
 -- column i is the first that the test doesn't pass, and it fails at this segment
-pub record IsFirstStop (job : Job) (test : Test) (r : RowState) (i : ℕ) (leaf : Leaf) : Type 0 where
+pub record IsFirstStop (job : JobFields) (test : Test) (r : RowState) (i : ℕ) (leaf : Leaf) : Type 0 where
   pub column : i < column_count job
   pub before : (k : ℕ) → k < i → PassesAt job test r k
   pub fails : FailsAt test.solid test.move (point_tri (row_point job test.kind r i)) leaf
 
 -- the tested point of column i blocks this segment of the test's move
-abbrev pub IsColumnBlocked : Job → Test → RowState → ℕ → Leaf → Type 0
+abbrev pub IsColumnBlocked : JobFields → Test → RowState → ℕ → Leaf → Type 0
 IsColumnBlocked job test r i leaf = Blocks test.solid (span_of test.move leaf.d leaf.k) (point_tri (row_point job test.kind r i))
 
 -- a holder passes the row's tops
-abbrev pub HolderPassesRow : Holder → Job → RowState → Move → Type 0
+abbrev pub HolderPassesRow : Holder → JobFields → RowState → Move → Type 0
 HolderPassesRow holder job r m = PassesRow job (holding holder m) r
 
 -- so does the job's, if it has one
-abbrev pub HolderClearsRow : Job → RowState → Move → Type 0
+abbrev pub HolderClearsRow : JobFields → RowState → Move → Type 0
 HolderClearsRow job r m = IfSome job.holder (λ holder. HolderPassesRow holder job r m)
 
 -- the job has a holder, and column i is the first whose top it doesn't pass, and the column's top blocks this segment
-pub record IsFirstHolderStop (job : Job) (r : RowState) (m : Move) (i : ℕ) (leaf : Leaf) : Type 0 where
+pub record IsFirstHolderStop (job : JobFields) (r : RowState) (m : Move) (i : ℕ) (leaf : Leaf) : Type 0 where
   pub holder : Holder
   pub there : job.holder ≡ Some holder
   pub column : IsFirstStop job (holding holder m) r i leaf

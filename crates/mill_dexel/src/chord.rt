@@ -10,7 +10,8 @@ pub(crate) fn half_chord(radius: i32, y: i32, middle: i32) -> Option<i32>
     requires radius_ok { HasRadius radius MAX_RADIUS }
     requires y_ok { Within MAX_COORDINATE y }
     requires middle_ok { Within MAX_COORDINATE middle }
-    ensures { MatchOption result (IsBeyond radius middle middle y) (IsHalfChord radius (y -ℤ middle)) }
+    ensures { MatchOption result (IsBeyond radius middle middle y) (IsHalfChord radius (y -ℤ
+        middle)) }
 {
     let radius = radius.unsigned_abs();
     let distance = y.abs_diff(middle);

@@ -6,16 +6,16 @@ ghost use Rattle.mill_base.specs.Points.{point_at};
 ghost use Rattle.mill_base.specs.Ranges.{MoveInRange};
 ghost use Rattle.mill_job.specs.Columns.{row_count, column_count, column_x, column_y};
 ghost use Rattle.mill_job.specs.Jobs.{IsJob};
-ghost use Rattle.mill_sampling.specs.Samples.{IsSample};
+ghost use Rattle.mill_dexel.specs.Samples.{IsSample};
 ghost use Rattle.mill_dexel.specs.Tops.{top_after_sample, tops_after_move};
 ghost use Rattle.mill_dexel.specs.Rows.{top_at};
 ghost use Rattle.mill_dexel.specs.Cuts.{IsCutAt, IsCutBy};
 
 use crate::chord::half_chord;
 use crate::reach::{is_beyond, reach_by};
+use crate::{Placed, halvings, sample_at};
 use mill_base::{Move, Pt3, offset, power_of_two};
 use mill_job::Job;
-use mill_sampling::{Placed, halvings, sample_at};
 use mill_shape::{cut_height, inside, shrink};
 
 /// Lowers the tops of a row to what the cutter leaves after the move: at each of its samples in
@@ -24,29 +24,28 @@ use mill_shape::{cut_height, inside, shrink};
 /// `last` is a point at which the row is cut already, if one is known. Most moves start where the
 /// one before them ended, and then the first sample would change nothing.
 pub(crate) fn cut_move(tops: &mut [i32], job: &Job, number: u32, step: &Move, last: Option<Pt3>)
-    requires job { IsJob job.now }
-    requires row { number < row_count job.now }
-    requires columns { length tops.old ≡ column_count job.now }
+    requires row { number < row_count job.now.fields }
+    requires columns { length tops.old ≡ column_count job.now.fields }
     requires step_ok { MoveInRange step.now }
-    requires last { IfSome last (λ tip. IsCutAt job.now number tip tops.old) }
-    ensures { tops.new ≡ tops_after_move job.now number 0 step.now tops.old }
+    requires last { IfSome last (λ tip. IsCutAt job.now.fields number tip tops.old) }
+    ensures { tops.new ≡ tops_after_move job.now.fields number 0 step.now tops.old }
 {
     if is_beyond(
         job.row_y(number),
-        job.cutter.radius(),
+        job.fields.cutter.radius(),
         step.from.y,
         step.to.y,
     ) {
         return;
     }
-    let narrowed = shrink(job.cutter);
-    let d = halvings(step, job.sample.unsigned_abs());
+    let narrowed = shrink(job.fields.cutter);
+    let d = halvings(step, job.fields.sample.unsigned_abs());
     for k in first_sample(step, last)..power_of_two(d) + 1 {
         cut_sample(
             tops,
             job,
             number,
-            sample_at(job.cutter, narrowed, step, d, k),
+            sample_at(job.fields.cutter, narrowed, step, d, k),
         );
     }
 }
@@ -61,11 +60,10 @@ fn first_sample(step: &Move, last: Option<Pt3>) -> u64
 
 /// Lowers the tops of a row to where the sample's cutter cuts, if there is one.
 fn cut_sample(tops: &mut [i32], job: &Job, number: u32, sample: Option<Placed>)
-    requires job { IsJob job.now }
-    requires row { number < row_count job.now }
-    requires columns { length tops.old ≡ column_count job.now }
+    requires row { number < row_count job.now.fields }
+    requires columns { length tops.old ≡ column_count job.now.fields }
     requires sample_ok { IfSome sample IsSample }
-    ensures { IsCutBy job.now number sample tops.old tops.new }
+    ensures { IsCutBy job.now.fields number sample tops.old tops.new }
 {
     if let Some(sample) = sample {
         cut_row(tops, job, number, sample);
@@ -75,11 +73,10 @@ fn cut_sample(tops: &mut [i32], job: &Job, number: u32, sample: Option<Placed>)
 /// Lowers the tops of a row to where the sample's cutter cuts. Only the columns that the row has
 /// inside the circle of its radius are looked at.
 fn cut_row(tops: &mut [i32], job: &Job, number: u32, sample: Placed)
-    requires job { IsJob job.now }
-    requires row { number < row_count job.now }
-    requires columns { length tops.old ≡ column_count job.now }
+    requires row { number < row_count job.now.fields }
+    requires columns { length tops.old ≡ column_count job.now.fields }
     requires sample_ok { IsSample sample }
-    ensures { IsCutBy job.now number (Some sample) tops.old tops.new }
+    ensures { IsCutBy job.now.fields number (Some sample) tops.old tops.new }
 {
     let tip = sample.tip;
     let Some(chord) = half_chord(sample.cutter.radius(), job.row_y(number), tip.y) else {
@@ -93,25 +90,24 @@ fn cut_row(tops: &mut [i32], job: &Job, number: u32, sample: Placed)
 
 /// Lowers the top of one column.
 fn cut_column(tops: &mut [i32], job: &Job, number: u32, column: u32, sample: Placed)
-    requires job { IsJob job.now }
-    requires row { number < row_count job.now }
-    requires columns { length tops.old ≡ column_count job.now }
-    requires column { column < column_count job.now }
+    requires row { number < row_count job.now.fields }
+    requires columns { length tops.old ≡ column_count job.now.fields }
+    requires column { column < column_count job.now.fields }
     requires sample_ok { IsSample sample }
-    ensures { tops.new ≡ slice_set tops.old column (top_after_sample job.now.floor (column_x job.now column) (column_y job.now number) (top_at tops.old column) (Some sample)) }
+    ensures { tops.new ≡ slice_set tops.old column (top_after_sample job.now.fields.floor (column_x job.now.fields column) (column_y job.now.fields number) (top_at tops.old column) (Some sample)) }
 {
     let before = tops[column as usize];
-    if is_free(before, job.floor, sample.tip.z) {
+    if is_free(before, job.fields.floor, sample.tip.z) {
         return;
     }
     let x = job.column_x(column);
     let y = job.row_y(number);
-    if is_clear(sample, job.floor, x, y, before) {
+    if is_clear(sample, job.fields.floor, x, y, before) {
         return;
     }
     if let Some(height) = cut_height(sample.cutter, sample.tip, x, y) {
         let top = &mut tops[column as usize];
-        *top = (*top).min(height).max(job.floor);
+        *top = (*top).min(height).max(job.fields.floor);
     }
 }
 
@@ -133,7 +129,8 @@ fn is_clear(sample: Placed, floor: i32, x: i32, y: i32, top: i32) -> bool
     requires x_ok { Within MAX_COORDINATE x }
     requires y_ok { Within MAX_COORDINATE y }
     ensures low { IsTrue result → floor ≤ℤ top }
-    ensures outside { IsTrue result → ¬ Holds sample.cutter (pos 1) sample.tip (pos 1) (point_at x y top) }
+    ensures outside { IsTrue result →
+        ¬ Holds sample.cutter (pos 1) sample.tip (pos 1) (point_at x y top) }
 {
     if top < floor {
         return false;

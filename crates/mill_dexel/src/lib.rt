@@ -17,6 +17,7 @@ mod laws;
 mod reach;
 mod row;
 mod rows;
+mod sample;
 mod stock;
 mod turns;
 
@@ -27,5 +28,6 @@ pub use laws::{
 };
 pub use row::Row;
 pub use rows::{rows_static, share};
+pub use sample::{Placed, halvings, sample_at};
 pub use stock::{cut_rows, keeps_depth, uncut_rows};
 pub use turns::one_outcome;

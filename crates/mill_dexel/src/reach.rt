@@ -29,29 +29,27 @@ struct Places {
 /// The columns that stand nearer than the cutter's radius and the greatest last reach to the interval
 /// between two points in x. A move between these points passes each other column.
 pub(crate) fn reach_of(job: &Job, from: Pt3, to: Pt3) -> Reach
-    requires { IsJob job.now }
-    ensures { IsReach job.now from.x to.x result.first result.end }
+    ensures { IsReach job.now.fields from.x to.x result.first result.end }
 {
     reach_by(job, passing_distance(job), from.x, to.x)
 }
 
 /// The same by the holder's radius. The holder passes each other column on such a move.
 pub(crate) fn holder_reach(job: &Job, holder: &Holder, from: Pt3, to: Pt3) -> Reach
-    requires job { IsJob job.now }
-    requires holder_ok { IsHolder holder.now }
-    ensures { IsReachBy job.now (holder.now.radius +ℤ pos MAX_LAST_REACH) from.x to.x result.first result.end }
+    requires { IsHolder holder.now }
+    ensures { IsReachBy job.now.fields (holder.now.radius +ℤ pos MAX_LAST_REACH) from.x to.x
+        result.first result.end }
 {
     reach_by(job, holder_distance(holder), from.x, to.x)
 }
 
 /// The columns that stand nearer than `distance` to the interval between two places in x.
 pub(crate) fn reach_by(job: &Job, distance: i32, from: i32, to: i32) -> Reach
-    requires { IsJob job.now }
-    ensures { IsReachBy job.now distance from to result.first result.end }
+    ensures { IsReachBy job.now.fields distance from to result.first result.end }
 {
     let columns = Places {
-        start: job.area.x0,
-        pitch: job.pitch,
+        start: job.fields.area.x0,
+        pitch: job.fields.pitch,
         count: job.columns(),
     };
     reach_along(columns, distance, from, to)
@@ -61,12 +59,11 @@ pub(crate) fn reach_by(job: &Job, distance: i32, from: i32, to: i32) -> Reach
 /// two points in y. A move between these points passes the columns of each other row, and leaves them
 /// uncut.
 pub(crate) fn row_reach(job: &Job, from: Pt3, to: Pt3) -> Reach
-    requires { IsJob job.now }
-    ensures { IsRowReach job.now from.y to.y result.first result.end }
+    ensures { IsRowReach job.now.fields from.y to.y result.first result.end }
 {
     let rows = Places {
-        start: job.area.y0,
-        pitch: job.pitch,
+        start: job.fields.area.y0,
+        pitch: job.fields.pitch,
         count: job.rows(),
     };
     reach_along(rows, passing_distance(job), from.y, to.y)
@@ -75,7 +72,8 @@ pub(crate) fn row_reach(job: &Job, from: Pt3, to: Pt3) -> Reach
 /// The places that are nearer than `distance` to the interval between two others.
 fn reach_along(places: Places, distance: i32, from: i32, to: i32) -> Reach
     requires { (pos 1) ≤ℤ places.pitch }
-    ensures { IsReachAlong places.start places.pitch places.count distance from to result.first result.end }
+    ensures { IsReachAlong places.start places.pitch places.count distance from to result.first
+        result.end }
 {
     Reach {
         first: places_up_to(places, low_end(distance, from, to)),
@@ -107,7 +105,8 @@ fn places_up_to(places: Places, end: i64) -> u32
     requires end_ok { Within (2 ^ 40) end }
     ensures bound { result ≤ places.count }
     ensures inside { (i : ℕ) → i < result → (places.start +ℤ pos i *ℤ places.pitch) ≤ℤ end }
-    ensures outside { (i : ℕ) → result ≤ i → i < places.count → end <ℤ (places.start +ℤ pos i *ℤ places.pitch) }
+    ensures outside { (i : ℕ) → result ≤ i → i < places.count →
+        end <ℤ (places.start +ℤ pos i *ℤ places.pitch) }
 {
     let span = end - i64::from(places.start);
     if span < 0 {
@@ -141,8 +140,8 @@ pub(crate) fn is_beyond(y: i32, distance: i32, from: i32, to: i32) -> bool
 /// Whether a row at `y` stands so far away from the interval between two places in y that a move
 /// within it passes the row and leaves it uncut.
 pub(crate) fn is_apart(job: &Job, y: i32, from: i32, to: i32) -> bool
-    requires { IsJob job.now }
-    ensures { IsTrue result → IsBeyond (radius_of job.now.cutter +ℤ pos MAX_LAST_REACH) from to y }
+    ensures { IsTrue result →
+        IsBeyond (radius_of job.now.fields.cutter +ℤ pos MAX_LAST_REACH) from to y }
 {
     is_beyond(y, passing_distance(job), from, to)
 }
@@ -159,10 +158,9 @@ pub(crate) fn is_holder_apart(holder: &Holder, y: i32, from: i32, to: i32) -> bo
 /// Whether a row at `y` stands so far away from the interval between two places in y that a move
 /// within it does nothing to the row, by its cutter or by its holder, which is wider.
 pub(crate) fn is_away(job: &Job, y: i32, from: i32, to: i32) -> bool
-    requires { IsJob job.now }
-    ensures { IsTrue result → IsAway job.now from to y }
+    ensures { IsTrue result → IsAway job.now.fields from to y }
 {
-    match &job.holder {
+    match &job.fields.holder {
         None => is_apart(job, y, from, to),
         Some(holder) => is_holder_apart(holder, y, from, to),
     }
@@ -180,8 +178,7 @@ fn holder_distance(holder: &Holder) -> i32
 /// How far away from a move in x or in y a column stands at least that the move passes: the cutter's
 /// radius and the greatest last reach.
 fn passing_distance(job: &Job) -> i32
-    requires { IsJob job.now }
-    ensures { result ≡ radius_of job.now.cutter +ℤ pos MAX_LAST_REACH }
+    ensures { result ≡ radius_of job.now.fields.cutter +ℤ pos MAX_LAST_REACH }
 {
-    job.cutter.radius() + MAX_LAST_REACH as i32
+    job.fields.cutter.radius() + MAX_LAST_REACH as i32
 }

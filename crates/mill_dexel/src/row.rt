@@ -46,12 +46,11 @@ impl Model for Row {
 impl Row {
     /// The uncut row of this number, before the first move.
     pub fn new(alloc: Global, job: &Job, number: u64) -> Result<Row, WantOfMemory>
-        requires job { IsJob job.now }
-        requires row { number < row_count job.now }
-        ensures row { IfOk result (λ r. IsRowOf job.now r) }
-        ensures uncut { IfOk result (λ r. r ≡ uncut_row job.now number) }
+        requires { number < row_count job.now.fields }
+        ensures row { IfOk result (λ r. IsRowOf job.now.fields r) }
+        ensures uncut { IfOk result (λ r. r ≡ uncut_row job.now.fields number) }
     {
-        let tops = vec![in alloc; job.top; job.columns() as usize]?;
+        let tops = vec![in alloc; job.fields.top; job.columns() as usize]?;
         Ok(Row {
             number: number as u32,
             tops,
@@ -98,11 +97,10 @@ impl Row {
     /// The first column whose top the move doesn't pass at every moment, with the segment of the move at
     /// which the test fails; none where it passes them all.
     pub fn rapid_turn(&self, job: &Job, step: &Move) -> Option<(u32, Leaf)>
-        requires job { IsJob job.now }
-        requires row { IsRowOf job.now self.now }
+        requires row { IsRowOf job.now.fields self.now }
         requires step { MoveInRange step.now }
-        ensures first { MatchOption result (PassesRow job.now (cutting job.now Rapid step.now) self.now) (λ s. IsFirstStop job.now (cutting job.now Rapid step.now) self.now s.0 s.1) }
-        ensures blocked { IfSome result (λ s. IsColumnBlocked job.now (cutting job.now Rapid step.now) self.now s.0 s.1) }
+        ensures first { MatchOption result (PassesRow job.now.fields (cutting job.now.fields Rapid step.now) self.now) (λ s. IsFirstStop job.now.fields (cutting job.now.fields Rapid step.now) self.now s.0 s.1) }
+        ensures blocked { IfSome result (λ s. IsColumnBlocked job.now.fields (cutting job.now.fields Rapid step.now) self.now s.0 s.1) }
     {
         self.first_stop(job, Kind::Rapid, step)
     }
@@ -113,15 +111,14 @@ impl Row {
     /// A feed may remove no point that lies the job's `max_cut` or more under the column's top. So it
     /// has to pass the point as far under the top as that, or the one at the floor where that is higher.
     pub fn cut_test(&self, job: &Job, step: &Move) -> Option<(u32, Leaf)>
-        requires job { IsJob job.now }
-        requires row { IsRowOf job.now self.now }
+        requires row { IsRowOf job.now.fields self.now }
         requires step { MoveInRange step.now }
-        ensures none { result ≡ None → IsTested job.now Feed → PassesRow job.now (cutting job.now Feed step.now) self.now }
-        ensures tested { IfSome result (λ s. IsTested job.now Feed) }
-        ensures first { IfSome result (λ s. IsFirstStop job.now (cutting job.now Feed step.now) self.now s.0 s.1) }
-        ensures blocked { IfSome result (λ s. IsColumnBlocked job.now (cutting job.now Feed step.now) self.now s.0 s.1) }
+        ensures none { result ≡ None → IsTested job.now.fields Feed → PassesRow job.now.fields (cutting job.now.fields Feed step.now) self.now }
+        ensures tested { IfSome result (λ s. IsTested job.now.fields Feed) }
+        ensures first { IfSome result (λ s. IsFirstStop job.now.fields (cutting job.now.fields Feed step.now) self.now s.0 s.1) }
+        ensures blocked { IfSome result (λ s. IsColumnBlocked job.now.fields (cutting job.now.fields Feed step.now) self.now s.0 s.1) }
     {
-        if job.max_cut == 0 {
+        if job.fields.max_cut == 0 {
             return None;
         }
         self.first_stop(job, Kind::Feed, step)
@@ -132,12 +129,11 @@ impl Row {
     ///
     /// A segment of the holder's way is one of the cutter's, since both are halved at the same moments.
     pub fn holder_test(&self, job: &Job, step: &Move) -> Option<(u32, Leaf)>
-        requires job { IsJob job.now }
-        requires row { IsRowOf job.now self.now }
+        requires row { IsRowOf job.now.fields self.now }
         requires step { MoveInRange step.now }
-        ensures { MatchOption result (HolderClearsRow job.now self.now step.now) (λ s. IsFirstHolderStop job.now self.now step.now s.0 s.1) }
+        ensures { MatchOption result (HolderClearsRow job.now.fields self.now step.now) (λ s. IsFirstHolderStop job.now.fields self.now step.now s.0 s.1) }
     {
-        match &job.holder {
+        match &job.fields.holder {
             None => None,
             Some(holder) => self.first_held(job, holder, step),
         }
@@ -145,11 +141,10 @@ impl Row {
 
     /// Lowers the tops to what the cutter leaves after the move.
     pub fn cut_turn(&mut self, job: &Job, step: &Move)
-        requires job { IsJob job.now }
-        requires row { IsRowOf job.now self.old }
+        requires row { IsRowOf job.now.fields self.old }
         requires step { MoveInRange step.now }
-        ensures tops { self.new ≡ record self.old { tops = tops_after_move job.now self.old.row 0 step.now self.old.tops } }
-        ensures row { IsRowOf job.now self.new }
+        ensures tops { self.new ≡ record self.old { tops = tops_after_move job.now.fields self.old.row 0 step.now self.old.tops } }
+        ensures row { IsRowOf job.now.fields self.new }
     {
         self.cut_after(job, step, None);
     }
@@ -159,16 +154,15 @@ impl Row {
     /// move that passes cuts, and the answer is true; where one fails, the first test that it fails is
     /// noted, nothing is cut, and the answer is false.
     pub fn turn(&mut self, job: &Job, moves: &[Move], t: u64) -> bool
-        requires job { IsJob job.now }
         requires moves_ok { MovesInRange moves.now }
-        requires row { IsRowOf job.now self.old }
+        requires row { IsRowOf job.now.fields self.old }
         requires unfailed { self.old.failed ≡ None }
         requires next { t ≡ self.old.done }
         requires there { t < length moves.now }
-        ensures clears { IsTrue result → ClearsRow job.now self.old (move_at moves.now t) }
-        ensures cut { IsTrue result → self.new ≡ turned job.now (move_at moves.now t) self.old }
-        ensures stopped { result ≡ false → IsRowStopped job.now (move_at moves.now t) self.old self.new }
-        ensures row { IsRowOf job.now self.new }
+        ensures clears { IsTrue result → ClearsRow job.now.fields self.old (move_at moves.now t) }
+        ensures cut { IsTrue result → self.new ≡ turned job.now.fields (move_at moves.now t) self.old }
+        ensures stopped { result ≡ false → IsRowStopped job.now.fields (move_at moves.now t) self.old self.new }
+        ensures row { IsRowOf job.now.fields self.new }
     {
         self.turn_after(job, moves, t, None)
     }
@@ -176,17 +170,16 @@ impl Row {
     /// The turn of move `t`, as `turn` makes it, in a row that all moves before it have cut. Where the
     /// move starts at the end of the one before, its first sample is left out, which would cut nothing.
     pub fn turn_on(&mut self, job: &Job, moves: &[Move], t: u64) -> bool
-        requires job { IsJob job.now }
         requires moves_ok { MovesInRange moves.now }
-        requires row { IsRowOf job.now self.old }
+        requires row { IsRowOf job.now.fields self.old }
         requires unfailed { self.old.failed ≡ None }
         requires next { t ≡ self.old.done }
         requires there { t < length moves.now }
-        requires left { IsLeftBy job.now moves.now t self.old }
-        ensures clears { IsTrue result → ClearsRow job.now self.old (move_at moves.now t) }
-        ensures cut { IsTrue result → self.new ≡ turned job.now (move_at moves.now t) self.old }
-        ensures stopped { result ≡ false → IsRowStopped job.now (move_at moves.now t) self.old self.new }
-        ensures row { IsRowOf job.now self.new }
+        requires left { IsLeftBy job.now.fields moves.now t self.old }
+        ensures clears { IsTrue result → ClearsRow job.now.fields self.old (move_at moves.now t) }
+        ensures cut { IsTrue result → self.new ≡ turned job.now.fields (move_at moves.now t) self.old }
+        ensures stopped { result ≡ false → IsRowStopped job.now.fields (move_at moves.now t) self.old self.new }
+        ensures row { IsRowOf job.now.fields self.new }
     {
         self.turn_after(job, moves, t, end_before(moves, t))
     }
@@ -194,19 +187,18 @@ impl Row {
     /// The turn of move `t`, as `turn_on` makes it, but the move cuts whether it passes or not, and the row
     /// goes on. The answer is the first test that the move fails, if it fails one; nothing is noted in the row.
     pub fn turn_through(&mut self, job: &Job, moves: &[Move], t: u64) -> Option<RowFail>
-        requires job { IsJob job.now }
         requires moves_ok { MovesInRange moves.now }
-        requires row { IsRowOf job.now self.old }
+        requires row { IsRowOf job.now.fields self.old }
         requires unfailed { self.old.failed ≡ None }
         requires next { t ≡ self.old.done }
         requires there { t < length moves.now }
-        requires left { IsLeftBy job.now moves.now t self.old }
+        requires left { IsLeftBy job.now.fields moves.now t self.old }
         ensures told { MatchOption
             result
-            (ClearsRow job.now self.old (move_at moves.now t))
-            (StopsRow job.now self.old (move_at moves.now t)) }
-        ensures cut { self.new ≡ turned job.now (move_at moves.now t) self.old }
-        ensures row { IsRowOf job.now self.new }
+            (ClearsRow job.now.fields self.old (move_at moves.now t))
+            (StopsRow job.now.fields self.old (move_at moves.now t)) }
+        ensures cut { self.new ≡ turned job.now.fields (move_at moves.now t) self.old }
+        ensures row { IsRowOf job.now.fields self.new }
     {
         let step = &moves[t as usize];
         let fail = self.stop(job, step);
@@ -219,17 +211,16 @@ impl Row {
     /// touches it, and says which move is next then. It goes band by band, up to the first band that
     /// comes near, so that a row far away from a whole program goes over it at once.
     pub fn go_over(&mut self, job: &Job, bands: &Bands, t: u64) -> u64
-        requires job { IsJob job.now }
         requires moves_ok { MovesInRange bands.now.moves }
-        requires row { IsRowOf job.now self.old }
+        requires row { IsRowOf job.now.fields self.old }
         requires unfailed { self.old.failed ≡ None }
         requires next { t ≡ self.old.done }
         requires there { t < bands.now.count }
         ensures onward { t ≤ result }
         ensures within { result ≤ bands.now.count }
-        ensures clears { (k : ℕ) → t ≤ k → k < result → ClearsRow job.now (row_before job.now bands.now.moves self.old k) (move_at bands.now.moves k) }
-        ensures is { self.new ≡ row_before job.now bands.now.moves self.old result }
-        ensures row { IsRowOf job.now self.new }
+        ensures clears { (k : ℕ) → t ≤ k → k < result → ClearsRow job.now.fields (row_before job.now.fields bands.now.moves self.old k) (move_at bands.now.moves k) }
+        ensures is { self.new ≡ row_before job.now.fields bands.now.moves self.old result }
+        ensures row { IsRowOf job.now.fields self.new }
     {
         let count = bands.count();
         let mut next = t;
@@ -252,15 +243,14 @@ impl Row {
         t: u64,
         last: Option<Pt3>,
     ) -> bool
-        requires job { IsJob job.now }
         requires moves_ok { MovesInRange moves.now }
-        requires row { IsRowOf job.now self.old }
+        requires row { IsRowOf job.now.fields self.old }
         requires next { IsNext moves.now self.old t }
-        requires last { IfSome last (λ tip. IsCutAt job.now self.old.row tip self.old.tops) }
-        ensures clears { IsTrue result → ClearsRow job.now self.old (move_at moves.now t) }
-        ensures cut { IsTrue result → self.new ≡ turned job.now (move_at moves.now t) self.old }
-        ensures stopped { result ≡ false → IsRowStopped job.now (move_at moves.now t) self.old self.new }
-        ensures row { IsRowOf job.now self.new }
+        requires last { IfSome last (λ tip. IsCutAt job.now.fields self.old.row tip self.old.tops) }
+        ensures clears { IsTrue result → ClearsRow job.now.fields self.old (move_at moves.now t) }
+        ensures cut { IsTrue result → self.new ≡ turned job.now.fields (move_at moves.now t) self.old }
+        ensures stopped { result ≡ false → IsRowStopped job.now.fields (move_at moves.now t) self.old self.new }
+        ensures row { IsRowOf job.now.fields self.new }
     {
         let step = &moves[t as usize];
         if let Some(fail) = self.stop(job, step) {
@@ -275,9 +265,8 @@ impl Row {
     /// Lets the row go over the moves of a band at once, and says whether it did: where its next move is
     /// one of them, and the band is so far away that none of them touches the row.
     pub(crate) fn pass_over(&mut self, job: &Job, band: &Band) -> bool
-        requires job { IsJob job.now }
-        requires row { IsRowOf job.now self.old }
-        ensures passed { IsTrue result → PassesOver job.now band.now self.old self.new }
+        requires { IsRowOf job.now.fields self.old }
+        ensures passed { IsTrue result → PassesOver job.now.fields band.now self.old self.new }
         ensures kept { result ≡ false → self.new ≡ self.old }
     {
         if self.done < band.first || self.done > band.end {
@@ -293,12 +282,11 @@ impl Row {
     /// Lowers the tops to what the cutter leaves after the move, where they are known to be cut at the
     /// point `last`, if one is given.
     fn cut_after(&mut self, job: &Job, step: &Move, last: Option<Pt3>)
-        requires job { IsJob job.now }
-        requires row { IsRowOf job.now self.old }
+        requires row { IsRowOf job.now.fields self.old }
         requires step { MoveInRange step.now }
-        requires last { IfSome last (λ tip. IsCutAt job.now self.old.row tip self.old.tops) }
-        ensures tops { self.new ≡ record self.old { tops = tops_after_move job.now self.old.row 0 step.now self.old.tops } }
-        ensures row { IsRowOf job.now self.new }
+        requires last { IfSome last (λ tip. IsCutAt job.now.fields self.old.row tip self.old.tops) }
+        ensures tops { self.new ≡ record self.old { tops = tops_after_move job.now.fields self.old.row 0 step.now self.old.tops } }
+        ensures row { IsRowOf job.now.fields self.new }
     {
         let number = self.number;
         cut_move(&mut self.tops, job, number, step, last);
@@ -307,10 +295,9 @@ impl Row {
     /// The failure of the next move, where the row stops it. The test of the move's kind comes before
     /// the holder's.
     fn stop(&self, job: &Job, step: &Move) -> Option<RowFail>
-        requires job { IsJob job.now }
-        requires row { IsRowOf job.now self.now }
+        requires row { IsRowOf job.now.fields self.now }
         requires step { MoveInRange step.now }
-        ensures { MatchOption result (ClearsRow job.now self.now step.now) (StopsRow job.now self.now step.now) }
+        ensures { MatchOption result (ClearsRow job.now.fields self.now step.now) (StopsRow job.now.fields self.now step.now) }
     {
         if let Some((col, leaf)) = self.kind_test(job, step) {
             return Some(RowFail {
@@ -334,10 +321,9 @@ impl Row {
     /// What the test of the move's kind finds: the first column that the cutter doesn't pass, and the
     /// segment of the move.
     fn kind_test(&self, job: &Job, step: &Move) -> Option<(u32, Leaf)>
-        requires job { IsJob job.now }
-        requires row { IsRowOf job.now self.now }
+        requires row { IsRowOf job.now.fields self.now }
         requires step { MoveInRange step.now }
-        ensures { MatchOption result (CutClearsRow job.now self.now step.now) (λ s. CutStopsAt job.now self.now step.now s.0 s.1) }
+        ensures { MatchOption result (CutClearsRow job.now.fields self.now step.now) (λ s. CutStopsAt job.now.fields self.now step.now s.0 s.1) }
     {
         match step.kind {
             Kind::Rapid => self.rapid_turn(job, step),
@@ -349,11 +335,10 @@ impl Row {
     /// kind is tested, with the segment of the move at which the test fails; none where it passes them
     /// all.
     fn first_stop(&self, job: &Job, kind: Kind, step: &Move) -> Option<(u32, Leaf)>
-        requires job { IsJob job.now }
-        requires row { IsRowOf job.now self.now }
+        requires row { IsRowOf job.now.fields self.now }
         requires step { MoveInRange step.now }
-        ensures first { MatchOption result (PassesRow job.now (cutting job.now kind step.now) self.now) (λ s. IsFirstStop job.now (cutting job.now kind step.now) self.now s.0 s.1) }
-        ensures blocked { IfSome result (λ s. IsColumnBlocked job.now (cutting job.now kind step.now) self.now s.0 s.1) }
+        ensures first { MatchOption result (PassesRow job.now.fields (cutting job.now.fields kind step.now) self.now) (λ s. IsFirstStop job.now.fields (cutting job.now.fields kind step.now) self.now s.0 s.1) }
+        ensures blocked { IfSome result (λ s. IsColumnBlocked job.now.fields (cutting job.now.fields kind step.now) self.now s.0 s.1) }
     {
         if self.is_passed_uncut(job, kind, step) {
             return None;
@@ -363,18 +348,17 @@ impl Row {
         if first >= reach.end {
             return None;
         }
-        let sweep = Sweep::new(job.cutter, step);
+        let sweep = Sweep::new(job.fields.cutter, step);
         first_tried(self, job, kind, &sweep, first, reach.end)
     }
 
     /// The same by the holder, which is tested at the columns' tops.
     fn first_held(&self, job: &Job, holder: &Holder, step: &Move) -> Option<(u32, Leaf)>
-        requires job { IsJob job.now }
-        requires row { IsRowOf job.now self.now }
+        requires row { IsRowOf job.now.fields self.now }
         requires holder { IsHolder holder.now }
         requires step { MoveInRange step.now }
-        ensures first { MatchOption result (HolderPassesRow holder.now job.now self.now step.now) (λ s. IsFirstStop job.now (holding holder.now step.now) self.now s.0 s.1) }
-        ensures blocked { IfSome result (λ s. IsColumnBlocked job.now (holding holder.now step.now) self.now s.0 s.1) }
+        ensures first { MatchOption result (HolderPassesRow holder.now job.now.fields self.now step.now) (λ s. IsFirstStop job.now.fields (holding holder.now step.now) self.now s.0 s.1) }
+        ensures blocked { IfSome result (λ s. IsColumnBlocked job.now.fields (holding holder.now step.now) self.now s.0 s.1) }
     {
         if is_holder_apart(holder, job.row_y(self.number), step.from.y, step.to.y) {
             return None;
@@ -392,11 +376,10 @@ impl Row {
     /// none. A solid whose tip stays that high passes those before it. Most feeds go where the column's top was
     /// cut near to them already, so all their points are as low, and nothing else has to be known of the move.
     fn first_over(&self, job: &Job, kind: Kind, low: i32, reach: Reach) -> u32
-        requires job { IsJob job.now }
-        requires row { IsRowOf job.now self.now }
-        requires columns { reach.end ≤ column_count job.now }
+        requires row { IsRowOf job.now.fields self.now }
+        requires columns { reach.end ≤ column_count job.now.fields }
         ensures bound { result ≤ reach.end }
-        ensures before { (k : ℕ) → reach.first ≤ k → k < result → tested_height_of job.now kind (top_at self.now.tops k) ≤ℤ low }
+        ensures before { (k : ℕ) → reach.first ≤ k → k < result → tested_height_of job.now.fields kind (top_at self.now.tops k) ≤ℤ low }
     {
         for column in reach.first..reach.end {
             if low < self.height_at(job, kind, column) {
@@ -412,27 +395,29 @@ impl Row {
     /// A feed is tested only under a limit on the depth of cut, and it seldom passes the uncut row but
     /// by its height, so it isn't halved for that.
     fn is_passed_uncut(&self, job: &Job, kind: Kind, step: &Move) -> bool
-        requires job { IsJob job.now }
-        requires row { IsRowOf job.now self.now }
+        requires row { IsRowOf job.now.fields self.now }
         requires step { MoveInRange step.now }
-        ensures { IsTrue result → PassesRow job.now (cutting job.now kind step.now) self.now }
+        ensures { IsTrue result → PassesRow job.now.fields (cutting job.now.fields kind step.now) self.now }
     {
         let y = job.row_y(self.number);
         if is_apart(job, y, step.from.y, step.to.y) {
             return true;
         }
         match kind {
-            Kind::Rapid => passes_tri(job.cutter, step, &uncut_triangle(job, kind, self.number)),
-            Kind::Feed => tested_height(job, kind, job.top) <= lower_end(step),
+            Kind::Rapid => passes_tri(
+                job.fields.cutter,
+                step,
+                &uncut_triangle(job, kind, self.number),
+            ),
+            Kind::Feed => tested_height(job, kind, job.fields.top) <= lower_end(step),
         }
     }
 
     /// The point of a column at which a move of this kind is tested.
     fn tested_point(&self, job: &Job, kind: Kind, column: u32) -> Pt3
-        requires job { IsJob job.now }
-        requires row { IsRowOf job.now self.now }
-        requires column { column < column_count job.now }
-        ensures { result ≡ row_point job.now kind self.now column }
+        requires row { IsRowOf job.now.fields self.now }
+        requires column { column < column_count job.now.fields }
+        ensures { result ≡ row_point job.now.fields kind self.now column }
     {
         Pt3 {
             x: job.column_x(column),
@@ -443,10 +428,9 @@ impl Row {
 
     /// The height at which a move of this kind is tested at a column.
     fn height_at(&self, job: &Job, kind: Kind, column: u32) -> i32
-        requires job { IsJob job.now }
-        requires row { IsRowOf job.now self.now }
-        requires column { column < column_count job.now }
-        ensures { result ≡ tested_height_of job.now kind (top_at self.now.tops column) }
+        requires row { IsRowOf job.now.fields self.now }
+        requires column { column < column_count job.now.fields }
+        ensures { result ≡ tested_height_of job.now.fields kind (top_at self.now.tops column) }
     {
         tested_height(job, kind, self.tops[column as usize])
     }
@@ -463,12 +447,11 @@ fn first_tried(
     first: u32,
     end: u32,
 ) -> Option<(u32, Leaf)>
-    requires job { IsJob job.now }
-    requires row { IsRowOf job.now row.now }
-    requires within { end ≤ column_count job.now }
-    requires beside { PassesBeside job.now (trying sweep.now kind) row.now first end }
-    ensures first { MatchOption result (PassesRow job.now (trying sweep.now kind) row.now) (λ s. IsFirstStop job.now (trying sweep.now kind) row.now s.0 s.1) }
-    ensures blocked { IfSome result (λ s. IsColumnBlocked job.now (trying sweep.now kind) row.now s.0 s.1) }
+    requires row { IsRowOf job.now.fields row.now }
+    requires within { end ≤ column_count job.now.fields }
+    requires beside { PassesBeside job.now.fields (trying sweep.now kind) row.now first end }
+    ensures first { MatchOption result (PassesRow job.now.fields (trying sweep.now kind) row.now) (λ s. IsFirstStop job.now.fields (trying sweep.now kind) row.now s.0 s.1) }
+    ensures blocked { IfSome result (λ s. IsColumnBlocked job.now.fields (trying sweep.now kind) row.now s.0 s.1) }
 {
     for column in first..end {
         let point = row.tested_point(job, kind, column);
@@ -514,33 +497,31 @@ fn end_before(moves: &[Move], t: u64) -> Option<Pt3>
 /// The height at which a move of this kind is tested at a column with this top: a rapid at the top, and a
 /// feed as far under it as it may cut, or at the floor where that is higher.
 fn tested_height(job: &Job, kind: Kind, top: i32) -> i32
-    requires job { IsJob job.now }
-    requires top { IsFrom job.now.floor job.now.top top }
-    ensures value { result ≡ tested_height_of job.now kind top }
-    ensures low { job.now.floor ≤ℤ result }
+    requires { IsFrom job.now.fields.floor job.now.fields.top top }
+    ensures value { result ≡ tested_height_of job.now.fields kind top }
+    ensures low { job.now.fields.floor ≤ℤ result }
     ensures high { result ≤ℤ top }
 {
     match kind {
         Kind::Rapid => top,
-        Kind::Feed => job.floor.max(top - job.max_cut),
+        Kind::Feed => job.fields.floor.max(top - job.fields.max_cut),
     }
 }
 
 /// The points of the uncut row at which a move of this kind is tested, as a flat triangle.
 fn uncut_triangle(job: &Job, kind: Kind, number: u32) -> Tri
-    requires job { IsJob job.now }
-    requires row { number < row_count job.now }
-    ensures { result ≡ uncut_tri job.now kind number }
+    requires { number < row_count job.now.fields }
+    ensures { result ≡ uncut_tri job.now.fields kind number }
 {
     let y = job.row_y(number);
-    let z = tested_height(job, kind, job.top);
+    let z = tested_height(job, kind, job.fields.top);
     let west = Pt3 {
-        x: job.area.x0,
+        x: job.fields.area.x0,
         y,
         z,
     };
     let east = Pt3 {
-        x: job.area.x1,
+        x: job.fields.area.x1,
         y,
         z,
     };

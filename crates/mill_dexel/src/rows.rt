@@ -28,13 +28,12 @@ pub fn rows_static<R: Threads + Sync>(
     moves: &[Move],
     workers: u32,
 ) -> Vec<Row>
-    requires job { IsJob job.now }
-    requires rows_ok { All (IsRowOf job.now) rows.items }
+    requires rows_ok { All (IsRowOf job.now.fields) rows.items }
     requires moves_ok { MovesInRange moves.now }
     requires some { 1 ≤ workers }
     requires few { workers ≤ MAX_WORKERS }
-    ensures turned { AllZip (IsTurned job.now moves.now) rows.items result.items }
-    ensures rows_ok { All (IsRowOf job.now) result.items }
+    ensures turned { AllZip (IsTurned job.now.fields moves.now) rows.items result.items }
+    ensures rows_ok { All (IsRowOf job.now.fields) result.items }
 {
     spread(rt, job, moves, workers, rows.as_mut_slice());
     rows
@@ -42,8 +41,8 @@ pub fn rows_static<R: Threads + Sync>(
 
 /// Halves the rows among the workers, until each has its chunk.
 fn spread<R: Threads + Sync>(rt: &R, job: &Job, moves: &[Move], workers: u32, rows: &mut [Row])
-    requires ready { AreReady job.now moves.now workers rows.old }
-    ensures { AllZip (IsTurned job.now moves.now) rows.old rows.new }
+    requires ready { AreReady job.now.fields moves.now workers rows.old }
+    ensures { AllZip (IsTurned job.now.fields moves.now) rows.old rows.new }
 {
     if workers <= 1 || rows.len() <= 1 {
         run_all(job, moves, rows);
@@ -57,13 +56,13 @@ fn spread<R: Threads + Sync>(rt: &R, job: &Job, moves: &[Move], workers: u32, ro
         rt,
         &mut || -> ()
             requires sync { IsSync R.row }
-            requires ready { AreReady job.now moves.now left_workers left.now }
-            ensures { AllZip (IsTurned job.entry.now moves.entry.now) left.entry.now left.exit.now }
+            requires ready { AreReady job.now.fields moves.now left_workers left.now }
+            ensures { AllZip (IsTurned job.entry.now.fields moves.entry.now) left.entry.now left.exit.now }
         { spread(rt, job, moves, left_workers, left) },
         &mut || -> ()
             requires sync { IsSync R.row }
-            requires ready { AreReady job.now moves.now right_workers right.now }
-            ensures { AllZip (IsTurned job.entry.now moves.entry.now) right.entry.now right.exit.now }
+            requires ready { AreReady job.now.fields moves.now right_workers right.now }
+            ensures { AllZip (IsTurned job.entry.now.fields moves.entry.now) right.entry.now right.exit.now }
         { spread(rt, job, moves, right_workers, right) },
     );
 }
@@ -91,10 +90,9 @@ const BLOCK: u64 = 512;
 /// One worker's chunk: the moves block by block, so that a row goes over a block that stays far away
 /// from it at once.
 fn run_all(job: &Job, moves: &[Move], rows: &mut [Row])
-    requires job { IsJob job.now }
-    requires rows_ok { All (IsRowOf job.now) rows.old }
+    requires rows_ok { All (IsRowOf job.now.fields) rows.old }
     requires moves_ok { MovesInRange moves.now }
-    ensures { AllZip (IsTurned job.now moves.now) rows.old rows.new }
+    ensures { AllZip (IsTurned job.now.fields moves.now) rows.old rows.new }
 {
     let count = moves.len() as u64;
     let mut first = 0;
@@ -116,13 +114,12 @@ fn block_end(first: u64, count: u64) -> u64
 
 /// One block of moves, row by row.
 fn run_block(job: &Job, moves: &[Move], band: &Band, rows: &mut [Row])
-    requires job { IsJob job.now }
-    requires rows_ok { All (IsRowOf job.now) rows.old }
+    requires rows_ok { All (IsRowOf job.now.fields) rows.old }
     requires moves_ok { MovesInRange moves.now }
     requires there { band.now.end ≤ length moves.now }
     requires band { IsBand moves.now band.now }
-    ensures turned { AllZip (IsTurnedUpTo job.now moves.now band.now.end) rows.old rows.new }
-    ensures rows_ok { All (IsRowOf job.now) rows.new }
+    ensures turned { AllZip (IsTurnedUpTo job.now.fields moves.now band.now.end) rows.old rows.new }
+    ensures rows_ok { All (IsRowOf job.now.fields) rows.new }
 {
     for row in rows.iter_mut() {
         run_to(row, job, moves, band);

@@ -15,9 +15,8 @@ use std::alloc::Global;
 
 /// All rows of the uncut stock, in order.
 pub fn uncut_rows(alloc: Global, job: &Job) -> Result<Vec<Row>, WantOfMemory>
-    requires { IsJob job.now }
-    ensures stock { IfOk result (λ rows. IsStock job.now [] rows.items) }
-    ensures rows_ok { IfOk result (λ rows. All (IsRowOf job.now) rows.items) }
+    ensures stock { IfOk result (λ rows. IsStock job.now.fields [] rows.items) }
+    ensures rows_ok { IfOk result (λ rows. All (IsRowOf job.now.fields) rows.items) }
 {
     let mut rows = Vec::new(alloc);
     for number in 0..job.rows() {
@@ -29,11 +28,10 @@ pub fn uncut_rows(alloc: Global, job: &Job) -> Result<Vec<Row>, WantOfMemory>
 /// Whether a feed passes every column of the stock as low as it may cut, after whatever moves have made
 /// the stock. It does where the job doesn't limit the depth of cut.
 pub fn keeps_depth(job: &Job, rows: &[Row], step: &Move) -> bool
-    requires job { IsJob job.now }
-    requires rows_ok { All (IsRowOf job.now) rows.now }
+    requires rows_ok { All (IsRowOf job.now.fields) rows.now }
     requires step { MoveInRange step.now }
-    ensures yes { IsTrue result → step.now.kind ≡ Feed → (done : List OneMove) → IsStock job.now done rows.now → ClearsColumns job.now done step.now }
-    ensures no { result ≡ false → step.now.kind ≡ Feed → (done : List OneMove) → IsStock job.now done rows.now → ¬ ClearsColumns job.now done step.now }
+    ensures yes { IsTrue result → step.now.kind ≡ Feed → (done : List OneMove) → IsStock job.now.fields done rows.now → ClearsColumns job.now.fields done step.now }
+    ensures no { result ≡ false → step.now.kind ≡ Feed → (done : List OneMove) → IsStock job.now.fields done rows.now → ¬ ClearsColumns job.now.fields done step.now }
 {
     let reach = row_reach(job, step.from, step.to);
     for number in reach.first as usize..rows.len().min(reach.end as usize) {
@@ -46,11 +44,10 @@ pub fn keeps_depth(job: &Job, rows: &[Row], step: &Move) -> bool
 
 /// Lowers the tops of all rows of the stock to what the cutter leaves after one more move.
 pub fn cut_rows(job: &Job, rows: &mut [Row], step: &Move)
-    requires job { IsJob job.now }
-    requires rows_ok { All (IsRowOf job.now) rows.old }
+    requires rows_ok { All (IsRowOf job.now.fields) rows.old }
     requires step { MoveInRange step.now }
-    ensures stock { (done : List OneMove) → IsStock job.now done rows.old → IsStock job.now (done ++ step.now ∷ []) rows.new }
-    ensures rows_ok { All (IsRowOf job.now) rows.new }
+    ensures stock { (done : List OneMove) → IsStock job.now.fields done rows.old → IsStock job.now.fields (done ++ step.now ∷ []) rows.new }
+    ensures rows_ok { All (IsRowOf job.now.fields) rows.new }
 {
     let reach = row_reach(job, step.from, step.to);
     for number in reach.first as usize..rows.len().min(reach.end as usize) {

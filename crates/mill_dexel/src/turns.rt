@@ -13,12 +13,11 @@ use mill_job::Job;
 /// Lets a row go through its turns, from its next move on, until those of the band end or one fails.
 /// A row that had failed is left as it is.
 pub(crate) fn run_to(row: &mut Row, job: &Job, moves: &[Move], band: &Band)
-    requires job { IsJob job.now }
     requires moves_ok { MovesInRange moves.now }
     requires there { band.now.end ≤ length moves.now }
     requires band { IsBand moves.now band.now }
-    requires row { IsRowOf job.now row.old }
-    ensures { IsTurnedUpTo job.now moves.now band.now.end row.old row.new }
+    requires row { IsRowOf job.now.fields row.old }
+    ensures { IsTurnedUpTo job.now.fields moves.now band.now.end row.old row.new }
 {
     if row.failed().is_some() {
         return;
@@ -32,12 +31,11 @@ pub(crate) fn run_to(row: &mut Row, job: &Job, moves: &[Move], band: &Band)
 /// Lets a row that hasn't failed go through its turns, from its next move on, before move `end`, or
 /// until one fails.
 fn run_on(row: &mut Row, job: &Job, moves: &[Move], end: u64)
-    requires job { IsJob job.now }
     requires moves_ok { MovesInRange moves.now }
     requires there { end ≤ length moves.now }
-    requires row { IsRowOf job.now row.old }
+    requires row { IsRowOf job.now.fields row.old }
     requires unfailed { row.old.failed ≡ None }
-    ensures { IsTurnedUpTo job.now moves.now end row.old row.new }
+    ensures { IsTurnedUpTo job.now.fields moves.now end row.old row.new }
 {
     let mut last = None;
     for t in row.done()..end {

@@ -1,2 +1,6 @@
 mod Plain
 mod Ascii
+mod LeafLemmas
+mod Naming
+mod Tops
+mod Lists

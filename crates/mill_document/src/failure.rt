@@ -1,4 +1,4 @@
-//! A move that fails, and a column that is left too high.
+//! What is told of a move that fails and of a column left too high, and the items of it.
 ghost use Rattle.std.specs.Prelude.{◌≡◌, IfOk, OnOk, false};
 ghost use Rattle.mill_document.specs.Documents.{column_data, column_or_null, corners_data, ends_data, failure_data, leaf_data, length_or_null, put_obstacle, put_place, segment_data, test_name, triangle_data, triangle_or_null};
 ghost use Rattle.serde_json.specs.Data.{string};
@@ -12,7 +12,7 @@ use std::alloc::{AllocError, Global};
 
 /// The test that a move fails.
 #[derive(Clone, Copy, Debug, PartialEq, Eq)]
-pub enum Test {
+pub(crate) enum Test {
     /// It goes under the floor.
     Floor,
     /// Its cutter gouges the part.
@@ -29,15 +29,15 @@ pub enum Test {
 
 /// A triangle of the part: its number, from 0, and its corners, in units.
 #[derive(Clone, Copy, Debug, PartialEq, Eq)]
-pub struct Triangle {
+pub(crate) struct Triangle {
     pub number: u32,
     pub corners: Tri,
 }
 
-/// A column of the stock: the numbers of its row and of its column in that, both from 0, its place and its
-/// top, in units.
+/// A column of the stock: the numbers of its row and of its column in that, both from 0, its place
+/// and its top, in units.
 #[derive(Clone, Copy, Debug, PartialEq, Eq)]
-pub struct Column {
+pub(crate) struct Column {
     pub row: u32,
     pub column: u32,
     pub x: i32,
@@ -45,10 +45,10 @@ pub struct Column {
     pub top: i32,
 }
 
-/// A segment of a move: the part of this number, from 0, of 2^depth equal ones, and its two ends, each
-/// rounded to whole units.
+/// A segment of a move: the part of this number, from 0, of 2^depth equal ones, and its two ends,
+/// each rounded to whole units.
 #[derive(Clone, Copy, Debug, PartialEq, Eq)]
-pub struct Segment {
+pub(crate) struct Segment {
     pub depth: u32,
     pub number: u64,
     pub from: Pt3,
@@ -57,7 +57,7 @@ pub struct Segment {
 
 /// A move that fails a test.
 #[derive(Clone, Copy, Debug, PartialEq, Eq)]
-pub struct Failure {
+pub(crate) struct Failure {
     /// The number of the move, from 0.
     pub number: u64,
     /// The number of its line, from 1.
@@ -74,7 +74,7 @@ pub struct Failure {
 }
 
 /// A move that fails, with the words of its line, as an item of a report.
-pub fn failure_value(
+pub(crate) fn failure_value(
     alloc: Global,
     unit: Unit,
     words: &[u8],
@@ -208,7 +208,11 @@ fn column_value_of(alloc: Global, unit: Unit, column: Option<Column>) -> Result<
 }
 
 /// A column of the stock, as an item of a report.
-pub fn column_value(alloc: Global, unit: Unit, column: &Column) -> Result<Value, WantOfMemory>
+pub(crate) fn column_value(
+    alloc: Global,
+    unit: Unit,
+    column: &Column,
+) -> Result<Value, WantOfMemory>
     ensures data { IfOk result (λ v. view v ≡ column_data unit column.now) }
     ensures plain { IfOk result (λ v. has_float (view v) ≡ false) }
 {

@@ -34,9 +34,9 @@ pub struct Summary {
     pub too_high: u64,
 }
 
-/// The document of a verdict: its line, without a line end; the checksums; the numbers; the moves that fail,
-/// as [`failure_value`](crate::failure_value) makes them; and the columns left too high that are told of, as
-/// [`column_value`](crate::column_value) does.
+/// The document of a verdict: its line, without a line end; the checksums; the numbers; the moves
+/// that fail, as [`failing_values`](crate::failing_values) makes them; and the columns left too
+/// high that are told of, as [`left_values`](crate::left_values) does.
 ///
 /// One line feed ends it. Only want of memory keeps it from the text.
 pub fn report_text(
@@ -50,7 +50,8 @@ pub fn report_text(
     requires failing { All (λ v. has_float (view v) ≡ false) failing.items }
     requires left { All (λ v. has_float (view v) ≡ false) left.items }
     ensures { IfOk result (λ made. made.items
-        ≡ text_of (report_data line.now sums.now summary.now (map view failing.items) (map view left.items))) }
+        ≡ text_of (report_data line.now sums.now summary.now
+        (map view failing.items) (map view left.items))) }
 {
     let mut members = Map::new(alloc);
     add_answer(&mut members, alloc, line, summary.status)?;
@@ -130,7 +131,8 @@ fn add_lists(
     left: Vec<Value>,
 ) -> Result<(), AllocError>
     ensures { OnOk result (members_view members.new.entries
-        ≡ put_lists too_high (map view failing.items) (map view left.items) (members_view members.old.entries)) }
+        ≡ put_lists too_high (map view failing.items) (map view left.items)
+        (members_view members.old.entries)) }
 {
     put(members, alloc, "failing", Value::from(failing))?;
     put(

@@ -16,13 +16,6 @@ pub record DropsBefore (cutter : Cutter) (part : List Tri) (x y floor : ℤ) (k 
   pub reached : (height ≡ floor) ⊎ CutterGougesAt cutter part x y (height -ℤ pos 1)
   pub free : All (λ t. ¬ TouchesAt cutter t x y height) (take k part)
 
-pub none_yet : (cutter : Cutter) (part : List Tri) (x y floor : ℤ) → DropsBefore cutter part x y floor 0 floor
-none_yet cutter part x y floor = record {
-  kept = omega (arith, ints);
-  reached = inl refl;
-  free = All-nil (λ t. ¬ TouchesAt cutter t x y floor);
-}
-
 pub one_more : (cutter : Cutter) (part : List Tri) (x y floor : ℤ) (k : ℕ) (d : Tri) (height new : ℤ) → k < length part → DropsBefore cutter part x y floor k height
     → height ≤ℤ new → (¬ TouchesAt cutter (get_or part k d) x y new) → (new ≡ height) ⊎ TouchesAt cutter (get_or part k d) x y (new -ℤ pos 1)
     → DropsBefore cutter part x y floor (k + 1) new

@@ -1,5 +1,5 @@
 -- The drop heights over a lattice.
-use Rattle.std.specs.Prelude.{◌≡◌, ℕ, ◌<◌, ℤ, List, length}
+use Rattle.std.specs.Prelude.{ℕ, ◌<◌, ℤ, List, length}
 use Rattle.std.specs.List.{AllZip}
 use Rattle.mill_base.specs.Numbers.{Within}
 use Rattle.mill_base.specs.declared.limits.TheConstants.{MAX_COORDINATE}
@@ -8,7 +8,6 @@ use Rattle.mill_base.specs.Tools.{IsTool}
 use Rattle.mill_base.specs.declared.points.Tri.{Tri}
 use Rattle.mill_base.specs.declared.lattice.Lattice.{Lattice}
 use Rattle.mill_base.specs.declared.tool.Tool.{Tool}
-use Rattle.mill_cells.specs.Sorted.{Sorted, sorted_of}
 use Rattle.mill_drop.specs.Drops.{IsDropHeight}
 
 -- z is the drop height at the node
@@ -20,8 +19,7 @@ abbrev pub AreDropHeights : Tool → List Tri → ℤ → Lattice → List ℤ �
 AreDropHeights tool part floor lattice heights = AllZip (IsHeightAt tool part floor) (nodes_of lattice) heights
 
 -- what a drop height at the node of this number needs
-pub record IsNodeTask (part : List Tri) (cells : Sorted) (tool : Tool) (lattice : Lattice) (floor : ℤ) (number : ℕ) : Type 0 where
-  pub cells_ok : cells ≡ sorted_of part
+pub record IsNodeTask (part : List Tri) (tool : Tool) (lattice : Lattice) (floor : ℤ) (number : ℕ) : Type 0 where
   pub tool_ok : IsTool tool
   pub lattice_ok : IsMapLattice lattice
   pub floor_ok : Within MAX_COORDINATE floor

@@ -3,7 +3,6 @@ ghost use Rattle.mill_base.specs.Numbers.{Within};
 ghost use Rattle.mill_base.specs.declared.limits.TheConstants.{MAX_COORDINATE};
 ghost use Rattle.mill_base.specs.Sizes.{IsCutter};
 ghost use Rattle.mill_base.specs.Tools.{IsHolder, IsTool};
-ghost use Rattle.mill_cells.specs.Sorted.{sorted_of};
 ghost use Rattle.mill_drop.specs.Drops.{IsDropHeight};
 ghost use Rattle.mill_drop.specs.inner.Cutters.{IsCutterDrop, IsHolderDrop};
 
@@ -11,16 +10,14 @@ use crate::holder::{face_from, tip_from};
 use crate::near::{raised_near, square_around, start_height};
 use crate::search::Spindle;
 use mill_base::{Cutter, Holder, Tool};
-use mill_cells::Cells;
-use mill_part::Part;
+use mill_part::SortedPart;
 
 /// The drop height at (x, y): the least whole height from `floor` on at which the tool with its tip
 /// there doesn't gouge, neither by its cutter nor by its holder. Only the triangles are tried whose
-/// boxes are near, by `cells`, which are those of the part's triangles.
+/// boxes are near.
 ///
 /// Lengths are in units, of at most `MAX_COORDINATE` in magnitude.
-pub fn drop_at(part: &Part, cells: &Cells, tool: &Tool, x: i32, y: i32, floor: i32) -> i32
-    requires cells_ok { cells.now ≡ sorted_of part.now }
+pub fn drop_at(part: &SortedPart, tool: &Tool, x: i32, y: i32, floor: i32) -> i32
     requires tool_ok { IsTool tool.now }
     requires x_ok { Within MAX_COORDINATE x }
     requires y_ok { Within MAX_COORDINATE y }
@@ -28,16 +25,15 @@ pub fn drop_at(part: &Part, cells: &Cells, tool: &Tool, x: i32, y: i32, floor: i
     ensures drop { IsDropHeight tool.now part.now x y floor result }
     ensures bound { Within MAX_COORDINATE result }
 {
-    let height = cutter_drop(part, cells, tool.cutter, x, y, floor);
+    let height = cutter_drop(part, tool.cutter, x, y, floor);
     match tool.holder {
-        Some(holder) => holder_drop(part, cells, holder, x, y, height),
+        Some(holder) => holder_drop(part, holder, x, y, height),
         None => height,
     }
 }
 
 /// The least height, from `from` on, at which the cutter doesn't gouge.
-fn cutter_drop(part: &Part, cells: &Cells, cutter: Cutter, x: i32, y: i32, from: i32) -> i32
-    requires cells_ok { cells.now ≡ sorted_of part.now }
+fn cutter_drop(part: &SortedPart, cutter: Cutter, x: i32, y: i32, from: i32) -> i32
     requires cutter_ok { IsCutter cutter }
     requires x_ok { Within MAX_COORDINATE x }
     requires y_ok { Within MAX_COORDINATE y }
@@ -46,13 +42,12 @@ fn cutter_drop(part: &Part, cells: &Cells, cutter: Cutter, x: i32, y: i32, from:
     ensures bound { Within MAX_COORDINATE result }
 {
     let spindle = Spindle { cutter, x, y };
-    let start = start_height(part, cells, spindle, from);
-    raised_near(part, cells, spindle, square_around(cutter, x, y), start)
+    let start = start_height(part, spindle, from);
+    raised_near(part, spindle, square_around(cutter, x, y), start)
 }
 
 /// The least height of the cutter's tip, from `from` on, at which the holder doesn't gouge.
-fn holder_drop(part: &Part, cells: &Cells, holder: Holder, x: i32, y: i32, from: i32) -> i32
-    requires cells_ok { cells.now ≡ sorted_of part.now }
+fn holder_drop(part: &SortedPart, holder: Holder, x: i32, y: i32, from: i32) -> i32
     requires holder_ok { IsHolder holder }
     requires x_ok { Within MAX_COORDINATE x }
     requires y_ok { Within MAX_COORDINATE y }
@@ -61,6 +56,6 @@ fn holder_drop(part: &Part, cells: &Cells, holder: Holder, x: i32, y: i32, from:
     ensures bound { Within MAX_COORDINATE result }
 {
     let start = face_from(holder, from);
-    let face = cutter_drop(part, cells, holder.solid(), x, y, start);
+    let face = cutter_drop(part, holder.solid(), x, y, start);
     tip_from(holder, face, from)
 }

@@ -1,16 +1,14 @@
 ghost use Rattle.std.specs.Prelude.{◌≡◌, IfOk, All};
 ghost use Rattle.mill_base.specs.Numbers.{Within};
 ghost use Rattle.mill_base.specs.declared.limits.TheConstants.{MAX_COORDINATE};
-ghost use Rattle.mill_cells.specs.Sorted.{sorted_of};
 ghost use Rattle.mill_base.specs.Lattices.{node_at, IsMapLattice};
 ghost use Rattle.mill_base.specs.Tools.{IsTool};
 ghost use Rattle.mill_drop.specs.Maps.{AreDropHeights, IsHeightAt, IsNodeTask};
 
 use crate::drop::drop_at;
 use mill_base::{Lattice, Tool, WantOfMemory};
-use mill_cells::Cells;
 use mill_crew::{Alone, Crew, Threaded};
-use mill_part::Part;
+use mill_part::SortedPart;
 use rayon::prelude::*;
 use std::alloc::Global;
 use std::thread::Threads;
@@ -21,20 +19,17 @@ pub trait DropCrew: Crew {
     /// along each row. They are the same whoever works them out. A runtime's threads are as many as the
     /// machine has processors.
     ///
-    /// `cells` are those of the part's triangles, and the lattice has at most `MAX_NODES` nodes. Lengths
-    /// are in units, of at most `MAX_COORDINATE` in magnitude, those of the result too. The only error
-    /// is want of memory.
+    /// The lattice has at most `MAX_NODES` nodes. Lengths are in units, of at most `MAX_COORDINATE` in
+    /// magnitude, those of the result too. The only error is want of memory.
     fn drop_map(
         &self,
         alloc: Global,
-        part: &Part,
-        cells: &Cells,
+        part: &SortedPart,
         tool: &Tool,
         lattice: &Lattice,
         floor: i32,
     ) -> Result<Vec<i32>, WantOfMemory>
         requires crew_ok { Self.ready }
-        requires cells_ok { cells.now ≡ sorted_of part.now }
         requires tool_ok { IsTool tool.now }
         requires lattice_ok { IsMapLattice lattice.now }
         requires floor_ok { Within MAX_COORDINATE floor }
@@ -47,13 +42,12 @@ impl<'a, R: Threads + Sync> DropCrew for Threaded<'a, R> {
     fn drop_map(
         &self,
         alloc: Global,
-        part: &Part,
-        cells: &Cells,
+        part: &SortedPart,
         tool: &Tool,
         lattice: &Lattice,
         floor: i32,
     ) -> Result<Vec<i32>, WantOfMemory> {
-        map_by_threads(self.rt, alloc, part, cells, tool, lattice, floor)
+        map_by_threads(self.rt, alloc, part, tool, lattice, floor)
     }
 }
 
@@ -61,13 +55,12 @@ impl DropCrew for Alone {
     fn drop_map(
         &self,
         alloc: Global,
-        part: &Part,
-        cells: &Cells,
+        part: &SortedPart,
         tool: &Tool,
         lattice: &Lattice,
         floor: i32,
     ) -> Result<Vec<i32>, WantOfMemory> {
-        map_in_turn(alloc, part, cells, tool, lattice, floor)
+        map_in_turn(alloc, part, tool, lattice, floor)
     }
 }
 
@@ -76,13 +69,11 @@ impl DropCrew for Alone {
 fn map_by_threads<R: Threads + Sync>(
     rt: &R,
     alloc: Global,
-    part: &Part,
-    cells: &Cells,
+    part: &SortedPart,
     tool: &Tool,
     lattice: &Lattice,
     floor: i32,
 ) -> Result<Vec<i32>, WantOfMemory>
-    requires cells_ok { cells.now ≡ sorted_of part.now }
     requires tool_ok { IsTool tool.now }
     requires lattice_ok { IsMapLattice lattice.now }
     requires floor_ok { Within MAX_COORDINATE floor }
@@ -95,10 +86,10 @@ fn map_by_threads<R: Threads + Sync>(
         .into_par_iter()
         .map(
             |number: u32| -> i32
-                requires { IsNodeTask part.now cells.now tool.now lattice.now floor number }
+                requires { IsNodeTask part.now tool.now lattice.now floor number }
                 ensures { IsHeightAt tool.entry.now part.entry.now floor
                     (node_at lattice.entry.now number) result × Within MAX_COORDINATE result }
-            { height_at(part, cells, tool, lattice, floor, number) },
+            { height_at(part, tool, lattice, floor, number) },
         )
         .collect(rt, alloc)?;
     Ok(heights)
@@ -108,13 +99,11 @@ fn map_by_threads<R: Threads + Sync>(
 /// magnitude.
 pub(crate) fn map_in_turn(
     alloc: Global,
-    part: &Part,
-    cells: &Cells,
+    part: &SortedPart,
     tool: &Tool,
     lattice: &Lattice,
     floor: i32,
 ) -> Result<Vec<i32>, WantOfMemory>
-    requires cells_ok { cells.now ≡ sorted_of part.now }
     requires tool_ok { IsTool tool.now }
     requires lattice_ok { IsMapLattice lattice.now }
     requires floor_ok { Within MAX_COORDINATE floor }
@@ -125,24 +114,17 @@ pub(crate) fn map_in_turn(
     let nodes = lattice.nodes() as u32;
     let mut dropped = Vec::with_capacity(alloc, nodes as usize)?;
     for number in 0..nodes {
-        dropped.push(height_at(part, cells, tool, lattice, floor, number))?;
+        dropped.push(height_at(part, tool, lattice, floor, number))?;
     }
     Ok(dropped)
 }
 
 /// The drop height at the node of this number.
-fn height_at(
-    part: &Part,
-    cells: &Cells,
-    tool: &Tool,
-    lattice: &Lattice,
-    floor: i32,
-    number: u32,
-) -> i32
-    requires { IsNodeTask part.now cells.now tool.now lattice.now floor number }
+fn height_at(part: &SortedPart, tool: &Tool, lattice: &Lattice, floor: i32, number: u32) -> i32
+    requires { IsNodeTask part.now tool.now lattice.now floor number }
     ensures height { IsHeightAt tool.now part.now floor (node_at lattice.now number) result }
     ensures bound { Within MAX_COORDINATE result }
 {
     let (x, y) = lattice.node(number);
-    drop_at(part, cells, tool, x, y, floor)
+    drop_at(part, tool, x, y, floor)
 }

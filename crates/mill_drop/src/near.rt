@@ -2,15 +2,13 @@ ghost use Rattle.std.specs.Prelude.{◌≡◌};
 ghost use Rattle.mill_base.specs.Numbers.{Within};
 ghost use Rattle.mill_base.specs.declared.limits.TheConstants.{MAX_COORDINATE};
 ghost use Rattle.mill_base.specs.Sizes.{IsCutter};
-ghost use Rattle.mill_cells.specs.Sorted.{sorted_of};
 ghost use Rattle.mill_drop.specs.inner.Cutters.{IsRaised};
 ghost use Rattle.mill_drop.specs.inner.Near.{AreFree, point_box, square_about};
 ghost use Rattle.mill_drop.specs.inner.Spindles.{IsSpindle};
 
 use crate::search::Spindle;
 use mill_base::{Box2, Cutter};
-use mill_cells::Cells;
-use mill_part::Part;
+use mill_part::SortedPart;
 
 /// The square about the place in which a cutter over it is.
 pub fn square_around(cutter: Cutter, x: i32, y: i32) -> Box2
@@ -42,17 +40,16 @@ fn only(x: i32, y: i32) -> Box2
 
 /// The least height, from `from` on, at which those of the part's triangles are free whose boxes meet
 /// the area. Those that aren't over the height so far are passed over, and so are whole cells of them.
-pub fn raised_near(part: &Part, cells: &Cells, spindle: Spindle, area: Box2, from: i32) -> i32
-    requires cells_ok { cells.now ≡ sorted_of part.now }
+pub fn raised_near(part: &SortedPart, spindle: Spindle, area: Box2, from: i32) -> i32
     requires spindle_ok { IsSpindle spindle }
     requires from_ok { Within MAX_COORDINATE from }
     ensures raised { IsRaised spindle.cutter part.now spindle.x spindle.y from result }
     ensures free { AreFree spindle.cutter part.now area spindle.x spindle.y result }
     ensures bound { Within MAX_COORDINATE result }
 {
-    let tris = part.tris();
+    let tris = part.part().tris();
     let mut height = from;
-    let mut near = cells.near_rising(area);
+    let mut near = part.cells().near_rising(area);
     while let Some(number) = near.next_over(height) {
         height = spindle.raised(&tris[number as usize], height);
     }
@@ -64,25 +61,23 @@ pub fn raised_near(part: &Part, cells: &Cells, spindle: Spindle, area: Box2, fro
 ///
 /// They are those at the place itself, and for a flat cutter those at two points of its edge, since
 /// the highest part point under it is often near there.
-pub fn start_height(part: &Part, cells: &Cells, spindle: Spindle, from: i32) -> i32
-    requires cells_ok { cells.now ≡ sorted_of part.now }
+pub fn start_height(part: &SortedPart, spindle: Spindle, from: i32) -> i32
     requires spindle_ok { IsSpindle spindle }
     requires from_ok { Within MAX_COORDINATE from }
     ensures raised { IsRaised spindle.cutter part.now spindle.x spindle.y from result }
     ensures bound { Within MAX_COORDINATE result }
 {
     let area = only(spindle.x, spindle.y);
-    let height = raised_near(part, cells, spindle, area, from);
+    let height = raised_near(part, spindle, area, from);
     match spindle.cutter {
-        Cutter::Flat { .. } => edge_height(part, cells, spindle, height),
+        Cutter::Flat { .. } => edge_height(part, spindle, height),
         Cutter::Ball { .. } => height,
         Cutter::Cone { .. } => height,
     }
 }
 
 /// The least height, from `from` on, at which the triangles at the edge's ends along x are free.
-fn edge_height(part: &Part, cells: &Cells, spindle: Spindle, from: i32) -> i32
-    requires cells_ok { cells.now ≡ sorted_of part.now }
+fn edge_height(part: &SortedPart, spindle: Spindle, from: i32) -> i32
     requires spindle_ok { IsSpindle spindle }
     requires from_ok { Within MAX_COORDINATE from }
     ensures raised { IsRaised spindle.cutter part.now spindle.x spindle.y from result }
@@ -90,6 +85,6 @@ fn edge_height(part: &Part, cells: &Cells, spindle: Spindle, from: i32) -> i32
 {
     let Spindle { cutter, x, y } = spindle;
     let Box2 { x0, x1, .. } = square_around(cutter, x, y);
-    let height = raised_near(part, cells, spindle, only(x0, y), from);
-    raised_near(part, cells, spindle, only(x1, y), height)
+    let height = raised_near(part, spindle, only(x0, y), from);
+    raised_near(part, spindle, only(x1, y), height)
 }

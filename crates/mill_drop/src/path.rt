@@ -2,15 +2,13 @@ ghost use Rattle.std.specs.Prelude.{◌≡◌, ◌<◌, length, map, All, IfOk};
 ghost use Rattle.mill_base.specs.Numbers.{Within};
 ghost use Rattle.mill_base.specs.declared.limits.TheConstants.{MAX_COORDINATE};
 ghost use Rattle.mill_base.specs.Tools.{IsTool};
-ghost use Rattle.mill_cells.specs.Sorted.{sorted_of};
 ghost use Rattle.mill_drop.specs.Paths.{row_lattice, tip_over, IsPath, IsRow, IsTolerance, KeepsTolerance};
 ghost use Rattle.mill_drop.specs.inner.Rows.{AreHeights};
 
 use crate::map::map_in_turn;
 use crate::places::places_of;
 use mill_base::{Box2, Lattice, Pt3, Tool, WantOfMemory};
-use mill_cells::Cells;
-use mill_part::Part;
+use mill_part::SortedPart;
 use std::alloc::Global;
 
 /// The greatest tolerance of a path, in units.
@@ -24,12 +22,10 @@ pub const MAX_TOLERANCE: i32 = 10_000;
 /// to the tip in the middle first, of two the lower in x, and either half is as a whole row. Each place
 /// is dropped once.
 ///
-/// `cells` are those of the part's triangles. `tol` is from 0 to `MAX_TOLERANCE`. Lengths are in units,
-/// of at most `MAX_COORDINATE` in magnitude.
+/// `tol` is from 0 to `MAX_TOLERANCE`. Lengths are in units, of at most `MAX_COORDINATE` in magnitude.
 pub fn path_drop(
     alloc: Global,
-    part: &Part,
-    cells: &Cells,
+    part: &SortedPart,
     tool: &Tool,
     y: i32,
     x0: i32,
@@ -37,7 +33,6 @@ pub fn path_drop(
     floor: i32,
     tol: i32,
 ) -> Result<Vec<Pt3>, WantOfMemory>
-    requires cells_ok { cells.now ≡ sorted_of part.now }
     requires tool_ok { IsTool tool.now }
     requires row_ok { IsRow y x0 x1 }
     requires floor_ok { Within MAX_COORDINATE floor }
@@ -45,7 +40,7 @@ pub fn path_drop(
     ensures path { IfOk result (λ points. IsPath tool.now part.now y x0 x1 floor tol points.items) }
     ensures keeps { IfOk result (λ points. KeepsTolerance tool.now part.now y x0 x1 floor tol points.items) }
 {
-    let heights = map_in_turn(alloc, part, cells, tool, &row(y, x0, x1), floor)?;
+    let heights = map_in_turn(alloc, part, tool, &row(y, x0, x1), floor)?;
     let places = places_of(alloc, &heights, tol)?;
     tips(alloc, &heights, &places, y, x0)
 }

@@ -6,14 +6,6 @@ use lib.Signed.{◌<ℤ◌, ◌≤ℤ◌}
 use Rattle.mill_base.proofs.Ring.{Var, Num, Add, Mul, Neg, ring}
 use Rattle.mill_base.proofs.Cert.{Le, Lt, Eq, Hyp, TimesEq, Sq, Lit, Plus, Times, prove_le_by, prove_lt_by}
 
--- vars q p u v w a b g x y z; hyp e: a*x+b*y+g*z == 0; goal (q*u+p*a)*x+(q*v+p*b)*y+(q*w+p*g)*z <= q*(u*x+v*y+w*z); eqmul e * p
-pub lin_zero : (q p u v w a b g x y z : ℤ) → (((a *ℤ x) +ℤ (b *ℤ y)) +ℤ (g *ℤ z)) ≡ (pos 0) → (((((q *ℤ u) +ℤ (p *ℤ a)) *ℤ x) +ℤ (((q *ℤ v) +ℤ (p *ℤ b)) *ℤ y)) +ℤ (((q *ℤ w) +ℤ (p *ℤ g)) *ℤ z)) ≤ℤ (q *ℤ (((u *ℤ x) +ℤ (v *ℤ y)) +ℤ (w *ℤ z)))
-lin_zero q p u v w a b g x y z e = prove_le_by (q ∷ p ∷ u ∷ v ∷ w ∷ a ∷ b ∷ g ∷ x ∷ y ∷ z ∷ []) (Eq (Add (Add (Mul (Var 5) (Var 8)) (Mul (Var 6) (Var 9))) (Mul (Var 7) (Var 10))) (Num (pos 0)) ∷ []) (Add (Add (Mul (Add (Mul (Var 0) (Var 2)) (Mul (Var 1) (Var 5))) (Var 8)) (Mul (Add (Mul (Var 0) (Var 3)) (Mul (Var 1) (Var 6))) (Var 9))) (Mul (Add (Mul (Var 0) (Var 4)) (Mul (Var 1) (Var 7))) (Var 10))) (Mul (Var 0) (Add (Add (Mul (Var 2) (Var 8)) (Mul (Var 3) (Var 9))) (Mul (Var 4) (Var 10)))) (Plus (Hyp 0) (TimesEq 1 (Var 1))) 0 (e, tt) refl
-
--- vars q p u v w a b g x y z; hyp e: a*x+b*y+g*z == 0; goal q*(u*x+v*y+w*z) <= (q*u+p*a)*x+(q*v+p*b)*y+(q*w+p*g)*z; eqmul e * p
-pub lin_zero2 : (q p u v w a b g x y z : ℤ) → (((a *ℤ x) +ℤ (b *ℤ y)) +ℤ (g *ℤ z)) ≡ (pos 0) → (q *ℤ (((u *ℤ x) +ℤ (v *ℤ y)) +ℤ (w *ℤ z))) ≤ℤ (((((q *ℤ u) +ℤ (p *ℤ a)) *ℤ x) +ℤ (((q *ℤ v) +ℤ (p *ℤ b)) *ℤ y)) +ℤ (((q *ℤ w) +ℤ (p *ℤ g)) *ℤ z))
-lin_zero2 q p u v w a b g x y z e = prove_le_by (q ∷ p ∷ u ∷ v ∷ w ∷ a ∷ b ∷ g ∷ x ∷ y ∷ z ∷ []) (Eq (Add (Add (Mul (Var 5) (Var 8)) (Mul (Var 6) (Var 9))) (Mul (Var 7) (Var 10))) (Num (pos 0)) ∷ []) (Mul (Var 0) (Add (Add (Mul (Var 2) (Var 8)) (Mul (Var 3) (Var 9))) (Mul (Var 4) (Var 10)))) (Add (Add (Mul (Add (Mul (Var 0) (Var 2)) (Mul (Var 1) (Var 5))) (Var 8)) (Mul (Add (Mul (Var 0) (Var 3)) (Mul (Var 1) (Var 6))) (Var 9))) (Mul (Add (Mul (Var 0) (Var 4)) (Mul (Var 1) (Var 7))) (Var 10))) (Plus (Hyp 0) (TimesEq 1 (Neg (Var 1)))) 0 (e, tt) refl
-
 pub lin : (q p u v w a b g x y z : ℤ) → (((((q *ℤ u) +ℤ (p *ℤ a)) *ℤ x) +ℤ (((q *ℤ v) +ℤ (p *ℤ b)) *ℤ y)) +ℤ (((q *ℤ w) +ℤ (p *ℤ g)) *ℤ z)) ≡ ((q *ℤ (((u *ℤ x) +ℤ (v *ℤ y)) +ℤ (w *ℤ z))) +ℤ (p *ℤ (((a *ℤ x) +ℤ (b *ℤ y)) +ℤ (g *ℤ z))))
 lin q p u v w a b g x y z = ring (q ∷ p ∷ u ∷ v ∷ w ∷ a ∷ b ∷ g ∷ x ∷ y ∷ z ∷ []) (Add (Add (Mul (Add (Mul (Var 0) (Var 2)) (Mul (Var 1) (Var 5))) (Var 8)) (Mul (Add (Mul (Var 0) (Var 3)) (Mul (Var 1) (Var 6))) (Var 9))) (Mul (Add (Mul (Var 0) (Var 4)) (Mul (Var 1) (Var 7))) (Var 10))) (Add (Mul (Var 0) (Add (Add (Mul (Var 2) (Var 8)) (Mul (Var 3) (Var 9))) (Mul (Var 4) (Var 10)))) (Mul (Var 1) (Add (Add (Mul (Var 5) (Var 8)) (Mul (Var 6) (Var 9))) (Mul (Var 7) (Var 10))))) refl
 
@@ -28,7 +20,3 @@ later_time N D p q hN hD hp hq = prove_le_by (N ∷ D ∷ p ∷ q ∷ []) (Le (N
 -- vars X Y N x y n; hyp ex: x == X; hyp ey: y == Y; hyp en: n == N; hyp h: X*X+Y*Y < N*N; goal x*x+y*y < n*n; eqmul ex * (x+X); eqmul ey * (y+Y); eqmul en * (n+N)
 pub later_near : (X Y N x y n : ℤ) → x ≡ X → y ≡ Y → n ≡ N → ((X *ℤ X) +ℤ (Y *ℤ Y)) <ℤ (N *ℤ N) → ((x *ℤ x) +ℤ (y *ℤ y)) <ℤ (n *ℤ n)
 later_near X Y N x y n ex ey en h = prove_lt_by (X ∷ Y ∷ N ∷ x ∷ y ∷ n ∷ []) (Eq (Var 3) (Var 0) ∷ Eq (Var 4) (Var 1) ∷ Eq (Var 5) (Var 2) ∷ Lt (Add (Mul (Var 0) (Var 0)) (Mul (Var 1) (Var 1))) (Mul (Var 2) (Var 2)) ∷ []) (Add (Mul (Var 3) (Var 3)) (Mul (Var 4) (Var 4))) (Mul (Var 5) (Var 5)) (Plus (Hyp 0) (Plus (Hyp 4) (Plus (TimesEq 1 (Add (Var 3) (Var 0))) (Plus (TimesEq 2 (Add (Var 4) (Var 1))) (TimesEq 3 (Neg (Add (Var 5) (Var 2)))))))) 0 (ex, (ey, (en, (h, tt)))) refl
-
--- vars a b q p; hyp e: a == q*b + p*0; goal a <= q*b
-pub same_zero : (a b q p : ℤ) → a ≡ ((q *ℤ b) +ℤ (p *ℤ (pos 0))) → a ≤ℤ (q *ℤ b)
-same_zero a b q p e = prove_le_by (a ∷ b ∷ q ∷ p ∷ []) (Eq (Var 0) (Add (Mul (Var 2) (Var 1)) (Mul (Var 3) (Num (pos 0)))) ∷ []) (Var 0) (Mul (Var 2) (Var 1)) (Plus (Hyp 0) (TimesEq 1 (Num (pos 1)))) 0 (e, tt) refl

@@ -30,3 +30,6 @@ pub mod ReachCerts
 pub mod Reaching
 pub mod GapCerts
 pub mod Gaps
+pub mod Stored
+pub mod ExtentCerts
+pub mod Extents

@@ -29,7 +29,3 @@ pair_hit_minor a h b ha hm = prove_lt_by (a ∷ h ∷ b ∷ []) (Lt (Num (pos 0)
 -- vars h b; hyp hh: h < 0; hyp hb: 0 <= b; goal 0*((b+1)*(b+1))+2*(h*((b+1)*1))+b*(1*1) < 0; mul hh * hb
 pub pair_hit_zero : (h b : ℤ) → h <ℤ (pos 0) → (pos 0) ≤ℤ b → ((((pos 0) *ℤ ((b +ℤ (pos 1)) *ℤ (b +ℤ (pos 1)))) +ℤ ((pos 2) *ℤ (h *ℤ ((b +ℤ (pos 1)) *ℤ (pos 1))))) +ℤ (b *ℤ ((pos 1) *ℤ (pos 1)))) <ℤ (pos 0)
 pair_hit_zero h b hh hb = prove_lt_by (h ∷ b ∷ []) (Lt (Var 0) (Num (pos 0)) ∷ Le (Num (pos 0)) (Var 1) ∷ []) (Add (Add (Mul (Num (pos 0)) (Mul (Add (Var 1) (Num (pos 1))) (Add (Var 1) (Num (pos 1))))) (Mul (Num (pos 2)) (Mul (Var 0) (Mul (Add (Var 1) (Num (pos 1))) (Num (pos 1)))))) (Mul (Var 1) (Mul (Num (pos 1)) (Num (pos 1))))) (Num (pos 0)) (Plus (Hyp 0) (Plus (Times (Lit 2) (Hyp 1)) (Plus (Hyp 2) (Times (Lit 2) (Times (Hyp 1) (Hyp 2)))))) 1 (hh, (hb, tt)) refl
-
--- vars h; hyp hm: h*h <= 0; goal h <= 0; pairs; square h
-pub zero_square : (h : ℤ) → (h *ℤ h) ≤ℤ (pos 0) → h ≤ℤ (pos 0)
-zero_square h hm = prove_le_by (h ∷ []) (Le (Mul (Var 0) (Var 0)) (Num (pos 0)) ∷ []) (Var 0) (Num (pos 0)) (Plus (Times (Lit 2) (Hyp 0)) (Plus (Hyp 1) (Times (Hyp 0) (Hyp 0)))) 0 (hm, tt) refl

@@ -3,7 +3,7 @@
 use Rattle.std.proofs.Common.{◌≡◌, [], ◌∷◌, refl}
 use lib.IntN.{ℤ, pos, ◌+ℤ◌, ◌-ℤ◌, ◌*ℤ◌}
 use lib.Signed.{◌<ℤ◌, ◌≤ℤ◌}
-use Rattle.mill_base.proofs.Ring.{Var, Num, Add, Sub, Mul, Neg, ring}
+use Rattle.mill_base.proofs.Ring.{Var, Num, Add, Sub, Mul, Neg}
 use Rattle.mill_base.proofs.Cert.{Le, Lt, Eq, Hyp, TimesEq, Sq, Lit, Plus, Times, refute, prove_le_by, prove_lt_by}
 
 -- vars px py qx qy r u v; hyp h: (px*px+py*py-r*r)*(u*u)+2*((px*qx+py*qy-r*r)*(u*v))+(qx*qx+qy*qy-r*r)*(v*v) < 0; goal (u*px+v*qx)*(u*px+v*qx)+(u*py+v*qy)*(u*py+v*qy) < (r*r)*((u+v)*(u+v))
@@ -53,9 +53,6 @@ cut_far px py qx qy r a b u v ha h g = refute (px ∷ py ∷ qx ∷ qy ∷ r ∷
 -- vars u v a b z w; hyp ea: a == z; hyp eb: b == 0-w; hyp h: 0 < u*z+v*w; goal 0 <= a*u-b*v; eqmul ea * u; eqmul eb * v
 pub cut_up : (u v a b z w : ℤ) → a ≡ z → b ≡ ((pos 0) -ℤ w) → (pos 0) <ℤ ((u *ℤ z) +ℤ (v *ℤ w)) → (pos 0) ≤ℤ ((a *ℤ u) -ℤ (b *ℤ v))
 cut_up u v a b z w ea eb h = prove_le_by (u ∷ v ∷ a ∷ b ∷ z ∷ w ∷ []) (Eq (Var 2) (Var 4) ∷ Eq (Var 3) (Sub (Num (pos 0)) (Var 5)) ∷ Lt (Num (pos 0)) (Add (Mul (Var 0) (Var 4)) (Mul (Var 1) (Var 5))) ∷ []) (Num (pos 0)) (Sub (Mul (Var 2) (Var 0)) (Mul (Var 3) (Var 1))) (Plus (Hyp 0) (Plus (Hyp 3) (Plus (TimesEq 1 (Neg (Var 0))) (TimesEq 2 (Var 1))))) 1 (ea, (eb, (h, tt))) refl
-
-pub minor_cut : (a h b la lb : ℤ) → ((((lb *ℤ a) +ℤ (la *ℤ h)) *ℤ ((lb *ℤ a) +ℤ (la *ℤ h))) -ℤ (a *ℤ ((((lb *ℤ lb) *ℤ a) +ℤ ((pos 2) *ℤ ((la *ℤ lb) *ℤ h))) +ℤ ((la *ℤ la) *ℤ b)))) ≡ ((la *ℤ la) *ℤ ((h *ℤ h) -ℤ (a *ℤ b)))
-minor_cut a h b la lb = ring (a ∷ h ∷ b ∷ la ∷ lb ∷ []) (Sub (Mul (Add (Mul (Var 4) (Var 0)) (Mul (Var 3) (Var 1))) (Add (Mul (Var 4) (Var 0)) (Mul (Var 3) (Var 1)))) (Mul (Var 0) (Add (Add (Mul (Mul (Var 4) (Var 4)) (Var 0)) (Mul (Num (pos 2)) (Mul (Mul (Var 3) (Var 4)) (Var 1)))) (Mul (Mul (Var 3) (Var 3)) (Var 2))))) (Mul (Mul (Var 3) (Var 3)) (Sub (Mul (Var 1) (Var 1)) (Mul (Var 0) (Var 2)))) refl
 
 -- vars a h b la lb; hyp hl: 0 < la; hyp hm: a*b < h*h; goal a*(lb*lb*a+2*(la*lb*h)+la*la*b) < (lb*a+la*h)*(lb*a+la*h); mul hm * hl * hl; mul hl * hl; mul hm * hl; mul hm+ * sq(la)
 pub minor_to : (a h b la lb : ℤ) → (pos 0) <ℤ la → (a *ℤ b) <ℤ (h *ℤ h) → (a *ℤ ((((lb *ℤ lb) *ℤ a) +ℤ ((pos 2) *ℤ ((la *ℤ lb) *ℤ h))) +ℤ ((la *ℤ la) *ℤ b))) <ℤ (((lb *ℤ a) +ℤ (la *ℤ h)) *ℤ ((lb *ℤ a) +ℤ (la *ℤ h)))

@@ -11,7 +11,7 @@ use Rattle.mill_geom.specs.Contacts.{TouchesTriangle}
 use Rattle.mill_geom.specs.Sides.{slid_by}
 use Rattle.mill_geom.proofs.DescendCerts.{lin}
 use Rattle.mill_geom.proofs.LevelCerts.{near_same}
-use Rattle.mill_geom.proofs.SideCerts.{side_near, side_dot, slid, slid_x, slid_back, sum_time, side_over, side_weight, strip_near}
+use Rattle.mill_geom.proofs.SideCerts.{side_near, side_dot, slid, slid_x, slid_back, sum_time, side_over, side_weight}
 
 -- some point of the triangle is nearer to the vertical plane along x than r, and over the level or on it
 pub record Strip (r : ℤ) (a b c : Offset) : Type 0 where
@@ -78,17 +78,3 @@ less_side r a b c t hr s hx ht v =
     let n = (v.u +ℤ v.v) +ℤ v.w in
     joined r a b c t (t *ℤ n) (pos 0 -ℤ (mean3 s.u s.v s.w a b c).x) hr s v (mul_nonneg-ℤ t n ht (weak n v.some)) (negated _ hx)
     (slid_back (mean3 s.u s.v s.w a b c).x (mean3 v.u v.v v.w a b c).x n t)
-
--- a touch at any place is in the strip
-pub in_strip : (r : ℤ) (a b c : Offset) (t : ℤ) → TouchesTriangle r (slid_by t a) (slid_by t b) (slid_by t c) → Strip r a b c
-in_strip r a b c t v = record {
-  u = v.u;
-  v = v.v;
-  w = v.w;
-  u_ok = v.u_ok;
-  v_ok = v.v_ok;
-  w_ok = v.w_ok;
-  some = v.some;
-  near = strip_near (mean3 v.u v.v v.w (slid_by t a) (slid_by t b) (slid_by t c)).x (mean3 v.u v.v v.w a b c).y _ v.inside.near;
-  level = weak _ v.inside.over;
-}

@@ -6,3 +6,5 @@ pub mod Spots
 pub mod Sides
 pub mod Reaches
 pub mod Gaps
+pub mod Extents
+pub mod inner

@@ -1,15 +1,15 @@
-//! Exact tests of a triangle against a vertical cylinder over a level.
+//! Exact tests of a triangle against a vertical cylinder over a level, and what bounds a triangle.
 //!
-//! It stands on mill_base, and works on the corners' offsets from the cylinder's centre.
-//! `touches_triangle` decides whether some point of a triangle, degenerate ones too, is over the
-//! level and strictly nearer to the axis than the radius; `reaches_cylinder` decides the closed
-//! case. `side` and `box_side` tell at which positions along an axis a clear triangle stays clear;
-//! `box_gap` and `highest` bound it by its box. Definitions: `specs/Contacts`, `specs/Reaches`,
-//! `specs/Sides`, `specs/Gaps`, `specs/Forms`; `specs/Widths` says how great the compared numbers
-//! can be.
+//! It stands on mill_base. Of a triangle's offsets from a cylinder's axis, degenerate ones too,
+//! `touches_triangle` decides whether some point over the level is strictly nearer than the radius,
+//! and `reaches_cylinder` the closed case; `side` and `box_side` tell where along an axis a clear
+//! triangle stays clear. `box_gap` and `highest` bound a triangle by its box, `extent_over` by what
+//! it has over a height. Definitions: `specs/Contacts`, `specs/Reaches`, `specs/Sides`, `specs/Gaps`,
+//! `specs/Forms`, `specs/Extents`; `specs/Widths` says how great the compared numbers can be.
 #![tactic(auto)]
 
 mod cylinder;
+mod extent;
 mod gap;
 mod level;
 mod offset;
@@ -23,6 +23,7 @@ mod triangle;
 mod turn;
 
 pub use cylinder::{all_from, all_to, box_side};
+pub use extent::{Extent, extent_over};
 pub use gap::{box_gap, highest};
 pub use level::touches_on_level;
 pub use offset::{Offset, offset_from};

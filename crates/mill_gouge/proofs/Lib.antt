@@ -2,3 +2,9 @@ mod ReadLemmas
 mod Looking
 mod Heights
 mod BothSolids
+mod RisingCerts
+mod Rising
+mod Leasts
+mod Clearing
+mod Rooms
+mod Bisecting

@@ -1,2 +1,4 @@
 pub mod Gouges
+pub mod Lifts
+pub mod Laws
 pub mod inner

@@ -2,7 +2,6 @@ ghost use Rattle.std.specs.Prelude.{◌≡◌, MatchOption};
 ghost use Rattle.mill_base.specs.Ranges.{MoveInRange, TriInRange};
 ghost use Rattle.mill_base.specs.Sizes.{IsCutter};
 ghost use Rattle.mill_base.specs.Tools.{IsHolder};
-ghost use Rattle.mill_cells.specs.Sorted.{sorted_of};
 ghost use Rattle.mill_gouge.specs.inner.Firsts.{IsEarlier};
 ghost use Rattle.mill_gouge.specs.inner.Reaches.{PassesOutside};
 ghost use Rattle.mill_gouge.specs.Gouges.{HolderPassesPart, IsFirstGouge, IsFirstHolderGouge, PassesPart};
@@ -10,8 +9,7 @@ ghost use Rattle.mill_gouge.specs.Gouges.{HolderPassesPart, IsFirstGouge, IsFirs
 use crate::reach::holder_reach;
 use crate::top::lid;
 use mill_base::{Box2, Cutter, Holder, Move, Tri};
-use mill_cells::Cells;
-use mill_part::Part;
+use mill_part::SortedPart;
 use mill_sweep::{Leaf, Sweep, reach_box};
 
 /// A triangle that a move, or a holder on it, doesn't pass, and the leaf of the move that it
@@ -22,17 +20,15 @@ pub struct Gouge {
     pub leaf: Leaf,
 }
 
-/// The first triangle that the move doesn't pass, with its failing leaf; none exactly where the move
-/// passes each triangle of the part.
+/// The first triangle that the move doesn't pass, with its failing leaf; none exactly where the
+/// move passes each triangle of the part.
 ///
-/// Only the triangles are tried whose boxes are near the move, by `cells`, which are those of the
-/// part's triangles, and that come over the lower of the move's ends. No triangle is tried where the
-/// move stays over the part's highest corner.
+/// Only the triangles are tried whose boxes are near the move, and that come over the lower of its
+/// ends. No triangle is tried where the move stays over the part's highest corner.
 ///
 /// Lengths are in units, and the ends of the move of at most 524,287 in magnitude.
-pub fn first_gouge(cutter: Cutter, part: &Part, cells: &Cells, step: &Move) -> Option<Gouge>
+pub fn first_gouge(cutter: Cutter, part: &SortedPart, step: &Move) -> Option<Gouge>
     requires cutter_ok { IsCutter cutter }
-    requires cells_ok { cells.now ≡ sorted_of part.now }
     requires move_ok { MoveInRange step.now }
     ensures { MatchOption
         result
@@ -40,20 +36,19 @@ pub fn first_gouge(cutter: Cutter, part: &Part, cells: &Cells, step: &Move) -> O
         (IsFirstGouge cutter step.now part.now) }
 {
     let (area, low) = reach_box(cutter, step);
-    if low >= lid(part) {
+    if low >= lid(part.part()) {
         return None;
     }
-    first_of(&Sweep::new(cutter, step), part, cells, area, low)
+    first_of(&Sweep::new(cutter, step), part, area, low)
 }
 
-/// The first triangle that the holder doesn't pass on the cutter's move, with the failing leaf; none
-/// exactly where it passes each triangle of the part.
+/// The first triangle that the holder doesn't pass on the cutter's move, with the failing leaf;
+/// none exactly where it passes each triangle of the part.
 ///
-/// A leaf of the holder's way is one of the cutter's. Lengths are in units, and the ends of the move,
-/// which is the cutter's, of at most 524,287 in magnitude.
-pub fn first_holder_gouge(holder: &Holder, part: &Part, cells: &Cells, step: &Move) -> Option<Gouge>
+/// A leaf of the holder's way is one of the cutter's. Lengths are in units, and the ends of the
+/// move, which is the cutter's, of at most 524,287 in magnitude.
+pub fn first_holder_gouge(holder: &Holder, part: &SortedPart, step: &Move) -> Option<Gouge>
     requires holder_ok { IsHolder holder.now }
-    requires cells_ok { cells.now ≡ sorted_of part.now }
     requires move_ok { MoveInRange step.now }
     ensures { MatchOption
         result
@@ -61,25 +56,24 @@ pub fn first_holder_gouge(holder: &Holder, part: &Part, cells: &Cells, step: &Mo
         (IsFirstHolderGouge holder.now step.now part.now) }
 {
     let (area, low) = holder_reach(holder, step);
-    if low >= lid(part) {
+    if low >= lid(part.part()) {
         return None;
     }
-    first_of(&Sweep::of_holder(holder, step), part, cells, area, low)
+    first_of(&Sweep::of_holder(holder, step), part, area, low)
 }
 
 /// The first triangle that the sweep doesn't pass, where it passes those whose box doesn't meet the
 /// area or that don't come over the height.
-fn first_of(sweep: &Sweep, part: &Part, cells: &Cells, area: Box2, low: i32) -> Option<Gouge>
-    requires cells_ok { cells.now ≡ sorted_of part.now }
-    requires outside { PassesOutside sweep.now.cutter sweep.now.move area low }
+fn first_of(sweep: &Sweep, part: &SortedPart, area: Box2, low: i32) -> Option<Gouge>
+    requires { PassesOutside sweep.now.cutter sweep.now.move area low }
     ensures { MatchOption
         result
         (PassesPart sweep.now.cutter sweep.now.move part.now)
         (IsFirstGouge sweep.now.cutter sweep.now.move part.now) }
 {
-    let tris = part.tris();
+    let tris = part.part().tris();
     let mut first = None;
-    for tri in cells.near_over(area, low) {
+    for tri in part.cells().near_over(area, low) {
         first = earlier(first, sweep, &tris[tri as usize], tri);
     }
     first

@@ -75,10 +75,6 @@ held_failed contents name from a b c first e = record {
   held = (tt, first.held);
 }
 
--- one read alone
-pub held_one : (contents : List ℕ → Option (List ℕ)) (r : Reading) (a b : List Reading) → b ≡ r ∷ a → IsHeld contents r → AreHeld contents a b
-held_one contents r a b e h = record { made = r ∷ []; grows = e; held = (h, tt) }
-
 one_more : (contents : List ℕ → Option (List ℕ)) (r : Reading) (made : List Reading) → made ≡ r ∷ [] → AllHeld contents made → IsHeld contents r
 one_more contents r made e h = (subst (λ (l : List Reading). AllHeld contents l) e h).0
 

@@ -66,19 +66,17 @@ impl<'a, S: Shelf> Pieces<'a, S> {
         ensures next { (contents : List ℕ → Option (List ℕ)) → AreHeld contents (S.shows self.old.shelf.now).log (S.shows self.new.shelf.now).log →
             self.old.end ≡ None → GivesNext (contents self.old.name.now) self.old.limit self.old.given buf.new result }
         ensures held { AreHeld (S.shows self.old.shelf.now).contents (S.shows self.old.shelf.now).log (S.shows self.new.shelf.now).log }
-        ensures failed { self.old.end ≡ None → result ≡ Err AtRead → LastFails self.old.name.now (S.shows self.new.shelf.now).log }
-        ensures cause { self.old.end ≡ None →
-            PieceEndsBy (S.shows self.old.shelf.now).read_faults (S.shows self.new.shelf.now).read_faults result }
-        ensures again { IfSome self.old.end (λ end. result ≡ answer_behind end) }
-        ensures unread { IfSome self.old.end (λ _. self.new.shelf.now ≡ self.old.shelf.now) }
-        ensures given { self.new.given ≡ self.old.given + bytes_given result }
-        ensures end { self.new.end ≡ end_by result }
+        ensures ends { self.old.end ≡ None →
+            PieceEndsBy (S.shows self.old.shelf.now).read_faults (S.shows self.new.shelf.now).read_faults result
+            × (result ≡ Err AtRead → LastFails self.old.name.now (S.shows self.new.shelf.now).log) }
+        ensures again { IfSome self.old.end (λ end.
+            (result ≡ answer_behind end) × (self.new.shelf.now ≡ self.old.shelf.now)) }
+        ensures moved { (self.new.given ≡ self.old.given + bytes_given result) × (self.new.end ≡ end_by result) }
         ensures only { ReadsOnly (S.shows self.old.shelf.now) (S.shows self.new.shelf.now) }
         ensures few { length (S.shows self.new.shelf.now).log + reads_left self.new.end self.new.limit self.new.given
             ≤ length (S.shows self.old.shelf.now).log + reads_left self.old.end self.old.limit self.old.given }
-        ensures same_reference { self.new.shelf.ghost_name ≡ self.old.shelf.ghost_name }
-        ensures name { self.new.name.now ≡ self.old.name.now }
-        ensures limit { self.new.limit ≡ self.old.limit }
+        ensures same { (self.new.shelf.ghost_name ≡ self.old.shelf.ghost_name)
+            × ((self.new.name.now ≡ self.old.name.now) × (self.new.limit ≡ self.old.limit)) }
     {
         if let Some(end) = self.end {
             return answer_again(end);

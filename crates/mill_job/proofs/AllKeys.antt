@@ -11,7 +11,7 @@ use Rattle.mill_job.specs.Tables.{checked, first}
 use Rattle.mill_job.specs.declared.cutter.Outline.{Outline}
 use Rattle.mill_job.specs.declared.groups.Extras.{Extras}
 use Rattle.mill_job.specs.declared.fault.JobFault.{JobFault}
-use Rattle.mill_job.specs.declared.job.Job.{Job}
+use Rattle.mill_job.specs.declared.fields.JobFields.{JobFields}
 use Rattle.mill_job.specs.declared.groups.Measure.{Measure}
 use Rattle.mill_job.specs.declared.groups.Paths.{Paths}
 use Rattle.mill_job.specs.declared.groups.Space.{Space}
@@ -107,6 +107,6 @@ pub is_ranged : (unit : Unit) (cutter : Cutter) (space : Space) (measure : Measu
 is_ranged unit cutter space measure paths extras s m p = record { floor_ok = s.floor_ok; top_ok = s.top_ok; area_ok = s.area_ok; pitch_ok = m.pitch_ok; layer_ok = p.layer_ok }
 
 -- behind keys with which nothing is wrong, the relations decide
-pub by_relations : (answer : Result Job JobFault) (fault : Option JobFault) (job other : Job) (faults : List (Option JobFault))
+pub by_relations : (answer : Result JobFields JobFault) (fault : Option JobFault) (job other : JobFields) (faults : List (Option JobFault))
     → answer ≡ checked fault job → fault ≡ first (relation_faults job) → job ≡ other → first faults ≡ first (relation_faults other) → answer ≡ checked (first faults) other
 by_relations answer fault job other faults answered found same none = answered ∙ rw (found, none, same) refl

@@ -10,3 +10,7 @@ pub mod OneAnswer
 mod Stored
 mod UnknownKeys
 mod Zeros
+mod StepFaults
+mod InTurn
+mod ListMeaning
+pub mod OneList

@@ -12,7 +12,7 @@ use Rattle.mill_job.specs.Tables.{first, checked, text_fault_if_there}
 use Rattle.mill_job.specs.Cutters.{cutter_faults}
 use Rattle.mill_job.specs.Documents.{unit_of, unit_texts, key_faults_in, relation_faults, job_with, document_fault, job_in}
 use Rattle.mill_job.specs.NoUnit.{NamesNoUnit, hundredths_fault, in_hundredths, MeansWithout, IsInHundredths}
-use Rattle.mill_job.specs.declared.job.Job.{Job}
+use Rattle.mill_job.specs.declared.fields.JobFields.{JobFields}
 use Rattle.mill_job.specs.declared.key.Key.TheVariants as key
 use Rattle.mill_job.specs.declared.fault.JobFault.{JobFault}
 use Rattle.mill_job.specs.declared.fault.JobFault.TheVariants.{Unknown}
@@ -82,11 +82,11 @@ means_without text h = by_document (parse_document text) h
 
 -- ---- the job's unit
 
-unit_of_checked : (fault : Option JobFault) (made job : Job) → made.unit ≡ Hundredth → Ok job ≡ checked fault made → job.unit ≡ Hundredth
+unit_of_checked : (fault : Option JobFault) (made job : JobFields) → made.unit ≡ Hundredth → Ok job ≡ checked fault made → job.unit ≡ Hundredth
 unit_of_checked None made job is e = cc
 unit_of_checked (Some fault) made job is e = absurd (cc)
 
-unit_in : (document : Option Members) (job : Job) → Ok job ≡ in_hundredths document → job.unit ≡ Hundredth
+unit_in : (document : Option Members) (job : JobFields) → Ok job ≡ in_hundredths document → job.unit ≡ Hundredth
 unit_in None job e = absurd (cc)
 unit_in (Some ms) job e = unit_of_checked (hundredths_fault ms) (job_with Hundredth ms) job refl e
 

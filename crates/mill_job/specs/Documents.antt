@@ -16,7 +16,7 @@ use Rattle.mill_job.specs.Cutters.{cutter_faults, cutter_of, shape_fault, slope_
 use Rattle.mill_job.specs.Holders.{holder_fault, holder_of, is_narrow}
 use Rattle.mill_job.specs.Keys.{name_of, every_key, unknown_but}
 use Rattle.mill_job.specs.Tables.{text_fault_if_there, number_fault, number_fault_if_there, coordinate_fault, array_fault, array_fault_if_there, is_area, is_place, are_levels, number_given, number_at, number_or, numbers_at, area_of, place_of, levels_of, fault_if, first, checked}
-use Rattle.mill_job.specs.declared.job.Job.{Job}
+use Rattle.mill_job.specs.declared.fields.JobFields.{JobFields}
 use Rattle.mill_job.specs.declared.limits.TheConstants.{MAX_DISTANCE, MAX_LAYERS}
 use Rattle.mill_job.specs.declared.key.Key.TheVariants as key
 use Rattle.mill_job.specs.declared.fault.JobFault.{JobFault}
@@ -84,7 +84,7 @@ abbrev pub rough_raster_of : Members → ℤ
 rough_raster_of ms = number_or key.RoughRaster (raster_of ms) ms
 
 -- the job of a document with whose keys nothing is wrong, in a unit
-abbrev pub job_with : Unit → Members → Job
+abbrev pub job_with : Unit → Members → JobFields
 job_with unit ms = record {
   unit = unit;
   cutter = cutter_of ms;
@@ -110,11 +110,11 @@ job_with unit ms = record {
 }
 
 -- the same in the document's unit
-abbrev pub job_from : Members → Job
+abbrev pub job_from : Members → JobFields
 job_from ms = job_with (unit_of ms) ms
 
 -- roughing takes off layers, and more than 1,000 of them
-abbrev pub has_many_layers : Job → Bool
+abbrev pub has_many_layers : JobFields → Bool
 has_many_layers job = int_lt (pos 0) job.layer && int_lt (MAX_LAYERS *ℤ job.layer) (job.top -ℤ job.floor)
 
 -- z is from the floor on, and under the top
@@ -122,7 +122,7 @@ abbrev pub is_level : ℤ → ℤ → ℤ → Bool
 is_level floor top z = int_le floor z && int_lt z top
 
 -- what is wrong between a job's numbers, in order
-abbrev pub relation_faults : Job → List (Option JobFault)
+abbrev pub relation_faults : JobFields → List (Option JobFault)
 relation_faults job =
     fault_if (int_lt job.top job.floor) (Relation key.Floor key.Top)
     ∷ fault_if (int_lt job.clear job.top) (Relation key.Top key.Clear)
@@ -134,7 +134,7 @@ relation_faults job =
     ∷ []
 
 -- what is wrong between another cutter and a job's numbers, in order
-abbrev pub fit_faults : Job → Cutter → List (Option JobFault)
+abbrev pub fit_faults : JobFields → Cutter → List (Option JobFault)
 fit_faults job cutter =
     fault_if (int_lt (radius_of cutter) job.band) (Relation key.Band key.Radius)
     ∷ fault_if (is_narrow (radius_of cutter) job.holder) (Relation key.Radius key.HolderRadius)
@@ -144,12 +144,12 @@ fit_faults job cutter =
 abbrev pub document_fault : Members → Option JobFault
 document_fault ms = first (option_map Unknown (unknown_but every_key ms) ∷ key_faults ms ++ cutter_faults ms ++ relation_faults (job_from ms))
 
-abbrev pub job_in : Option Members → Result Job JobFault
+abbrev pub job_in : Option Members → Result JobFields JobFault
 job_in None = Err Syntax
 job_in (Some ms) = checked (document_fault ms) (job_from ms)
 
 -- what a text of UTF-8 means as a job, or its first fault
-abbrev pub job_of : List ℕ → Result Job JobFault
+abbrev pub job_of : List ℕ → Result JobFields JobFault
 job_of text = job_in (parse_document text)
 
 -- the text is no TOML document, or not UTF-8
@@ -157,10 +157,10 @@ abbrev pub IsNoDocument : List ℕ → Type 0
 IsNoDocument text = (¬ IsUtf8 text) ⊎ (IsUtf8 text × (parse_document text ≡ None))
 
 -- what a text means as a job; the definition of a document allows any bytes in a comment, so a text that isn't UTF-8 is refused here
-abbrev pub IsJobOf : List ℕ → Result Job JobFault → Type 0
+abbrev pub IsJobOf : List ℕ → Result JobFields JobFault → Type 0
 IsJobOf text answer = (IsUtf8 text × (answer ≡ job_of text)) ⊎ ((¬ IsUtf8 text) × (answer ≡ Err Syntax))
 
 -- the answer is what the text means, or there was not enough memory
-abbrev pub GivesJob : List ℕ → Result Job JobFault → Type 0
+abbrev pub GivesJob : List ℕ → Result JobFields JobFault → Type 0
 GivesJob text (Err WantOfMemory) = ⊤
 GivesJob text answer = IsJobOf text answer

@@ -9,7 +9,7 @@ use Rattle.mill_base.specs.declared.cutter.Cutter.{Cutter}
 use Rattle.mill_base.specs.declared.tool.Tool.{Tool}
 use Rattle.mill_job.specs.Columns.{row_count, column_count}
 use Rattle.mill_job.specs.Tables.{IsPlace}
-use Rattle.mill_job.specs.declared.job.Job.{Job}
+use Rattle.mill_job.specs.declared.fields.JobFields.{JobFields}
 use Rattle.mill_job.specs.declared.limits.TheConstants.{MAX_DISTANCE, MAX_LAYERS, MAX_LEVELS}
 
 -- z is from lo to hi
@@ -18,7 +18,7 @@ pub record IsFrom (lo hi z : ℤ) : Type 0 where
   pub high : z ≤ℤ hi
 
 -- roughing takes off at most 1,000 layers, if any
-abbrev pub HasFewLayers : Job → Type 0
+abbrev pub HasFewLayers : JobFields → Type 0
 HasFewLayers job = (pos 0) <ℤ job.layer → (job.top -ℤ job.floor) ≤ℤ (MAX_LAYERS *ℤ job.layer)
 
 -- z is from the floor on, and under the top
@@ -33,7 +33,7 @@ pub record AreLevels (floor top : ℤ) (levels : List ℤ) : Type 0 where
   pub within : All (IsLevel floor top) levels
 
 -- every number of the job is in its range, and the relations between them hold
-pub record IsJob (job : Job) : Type 0 where
+pub record IsJob (job : JobFields) : Type 0 where
   pub cutter_ok : IsCutter job.cutter
   pub floor_ok : Within (greatest_of job.unit) job.floor
   pub top_ok : Within (greatest_of job.unit) job.top
@@ -66,11 +66,11 @@ pub record IsJob (job : Job) : Type 0 where
   pub path_tol_ok : IfSome job.path_tol (IsFrom (pos 0) MAX_DISTANCE)
 
 -- the job's relations hold with this cutter in the place of its own
-pub record FitsJob (job : Job) (cutter : Cutter) : Type 0 where
+pub record FitsJob (job : JobFields) (cutter : Cutter) : Type 0 where
   pub cutter_ok : IsCutter cutter
   pub narrow : job.band ≤ℤ radius_of cutter
   pub wider : IfSome job.holder (λ holder. radius_of cutter <ℤ holder.radius)
 
 -- a job's cutter, with its holder if it has one
-abbrev pub tool_of : Job → Tool
+abbrev pub tool_of : JobFields → Tool
 tool_of job = record { cutter = job.cutter; holder = job.holder }

@@ -1,5 +1,6 @@
 pub mod Columns
 pub mod Jobs
+pub mod Answered
 pub mod Keys
 pub mod Tables
 pub mod Cutters
@@ -7,4 +8,6 @@ pub mod Holders
 pub mod Documents
 pub mod NoUnit
 pub mod Filled
+pub mod Steps
+pub mod Lists
 pub mod inner

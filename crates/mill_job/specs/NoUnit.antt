@@ -7,7 +7,7 @@ use Rattle.mill_job.specs.Keys.{name_of, other_keys, unknown_but}
 use Rattle.mill_job.specs.Tables.{first, checked}
 use Rattle.mill_job.specs.Cutters.{cutter_faults}
 use Rattle.mill_job.specs.Documents.{key_faults_in, relation_faults, job_with, job_of, IsJobOf}
-use Rattle.mill_job.specs.declared.job.Job.{Job}
+use Rattle.mill_job.specs.declared.fields.JobFields.{JobFields}
 use Rattle.mill_job.specs.declared.key.Key.TheVariants as key
 use Rattle.mill_job.specs.declared.fault.JobFault.{JobFault}
 use Rattle.mill_job.specs.declared.fault.JobFault.TheVariants.{Syntax, Unknown}
@@ -27,7 +27,7 @@ abbrev pub hundredths_fault : Members → Option JobFault
 hundredths_fault ms = first (option_map Unknown (unknown_but other_keys ms) ∷ key_faults_in Hundredth ms ++ cutter_faults ms ++ relation_faults (job_with Hundredth ms))
 
 -- the job in hundredths of a document, or its first fault
-abbrev pub in_hundredths : Option Members → Result Job JobFault
+abbrev pub in_hundredths : Option Members → Result JobFields JobFault
 in_hundredths None = Err Syntax
 in_hundredths (Some ms) = checked (hundredths_fault ms) (job_with Hundredth ms)
 
@@ -39,4 +39,4 @@ MeansWithout = (text : List ℕ) → LacksUnit text → job_of text ≡ in_hundr
 
 -- its job is in hundredths
 abbrev pub IsInHundredths : Type 0
-IsInHundredths = (text : List ℕ) (job : Job) → LacksUnit text → IsJobOf text (Ok job) → job.unit ≡ Hundredth
+IsInHundredths = (text : List ℕ) (job : JobFields) → LacksUnit text → IsJobOf text (Ok job) → job.unit ≡ Hundredth

@@ -7,7 +7,7 @@ use Rattle.mill_base.specs.declared.unit.Unit.{Unit}
 use Rattle.toml.specs.Data.{Data, Members, Items, no_items, item, get_member, as_integer, as_str, as_array}
 use Rattle.mill_job.specs.Keys.{name_of, is_one_of}
 use Rattle.mill_job.specs.declared.key.Key.{Key}
-use Rattle.mill_job.specs.declared.job.Place.{Place}
+use Rattle.mill_job.specs.declared.fields.Place.{Place}
 use Rattle.mill_job.specs.declared.limits.TheConstants.{MAX_LEVELS}
 use Rattle.mill_job.specs.declared.fault.JobFault.{JobFault}
 use Rattle.mill_job.specs.declared.fault.JobFault.TheVariants.{Missing, WrongKind, Range}

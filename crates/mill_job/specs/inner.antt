@@ -2,3 +2,4 @@
 pub mod Groups
 pub mod Ranged
 pub mod Relations
+pub mod Facts

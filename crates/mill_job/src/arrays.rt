@@ -5,7 +5,7 @@ ghost use Rattle.mill_job.specs.declared.limits.TheConstants.{MAX_LEVELS};
 ghost use Rattle.mill_job.specs.inner.Ranged.{AreInOrder};
 
 use crate::fault::JobFault;
-use crate::job::Place;
+use crate::fields::Place;
 use crate::key::Key;
 use crate::levels::Levels;
 use crate::limits::MAX_LEVELS;
@@ -64,7 +64,8 @@ fn corners(x0: i64, y0: i64, x1: i64, y1: i64, unit: Unit) -> Result<Box2, JobFa
 
 /// The four whole numbers that the values are.
 fn four(a: &Value, b: &Value, c: &Value, d: &Value) -> Option<(i64, i64, i64, i64)>
-    ensures { option_map (λ z. z.0 ∷ z.1 ∷ z.2 ∷ z.3 ∷ []) result ≡ integers (items_view (a.now ∷ b.now ∷ c.now ∷ d.now ∷ [])) }
+    ensures { option_map (λ z. z.0 ∷ z.1 ∷ z.2 ∷ z.3 ∷ []) result ≡
+        integers (items_view (a.now ∷ b.now ∷ c.now ∷ d.now ∷ [])) }
 {
     Some((
         a.as_integer()?,
@@ -91,8 +92,10 @@ fn area_in(values: &[Value], unit: Unit) -> Result<Box2, JobFault>
 /// The rectangle at `area`.
 #[tactic(auto, unfolding(crate::specs::Tables::array_fault, crate::specs::Tables::numbers_at))]
 pub fn area(table: &Table, unit: Unit) -> Result<Box2, JobFault>
-    ensures ok { IfOk result (λ area. (array_fault Key.Area (is_area unit) (table_view table.now) ≡ None) × (area ≡ area_of (numbers_at Key.Area (table_view table.now)))) }
-    ensures err { IfErr result (λ fault. array_fault Key.Area (is_area unit) (table_view table.now) ≡ Some fault) }
+    ensures ok { IfOk result (λ area. (array_fault Key.Area (is_area unit) (table_view table.now)
+        ≡ None) × (area ≡ area_of (numbers_at Key.Area (table_view table.now)))) }
+    ensures err { IfErr result (λ fault. array_fault Key.Area (is_area unit) (table_view
+        table.now) ≡ Some fault) }
     ensures in_range { IfOk result (IsArea unit) }
 {
     let value = find(table, Key::Area).ok_or(JobFault::Missing(Key::Area))?;
@@ -106,7 +109,8 @@ pub fn area(table: &Table, unit: Unit) -> Result<Box2, JobFault>
 fn falling(values: &[Value], unit: Unit) -> Result<Levels, JobFault>
     requires few { length values.now ≤ MAX_LEVELS }
     requires whole { is_some (integers (items_view values.now)) ≡ true }
-    ensures { result ≡ checked (kind_fault Key.Levels (are_levels unit) (integers (items_view values.now))) (levels_of (integers (items_view values.now))) }
+    ensures { result ≡ checked (kind_fault Key.Levels (are_levels unit) (integers (items_view
+        values.now))) (levels_of (integers (items_view values.now))) }
 {
     let mut levels = Levels::NONE;
     let mut bound = unit.greatest() + 1;
@@ -142,7 +146,8 @@ fn levels_in(values: &[Value], unit: Unit) -> Result<Levels, JobFault>
 #[tactic(auto, unfolding(crate::specs::Tables::array_fault_if_there, crate::specs::Tables::numbers_at))]
 pub fn levels(table: &Table, unit: Unit) -> Result<Levels, JobFault>
     ensures ok { IfOk result (λ levels. (array_fault_if_there Key.Levels (are_levels unit) (table_view table.now) ≡ None) × (levels ≡ levels_of (numbers_at Key.Levels (table_view table.now)))) }
-    ensures err { IfErr result (λ fault. array_fault_if_there Key.Levels (are_levels unit) (table_view table.now) ≡ Some fault) }
+    ensures err { IfErr result (λ fault. array_fault_if_there Key.Levels (are_levels unit)
+        (table_view table.now) ≡ Some fault) }
     ensures in_order { IfOk result AreInOrder }
 {
     let Some(value) = find(table, Key::Levels) else {

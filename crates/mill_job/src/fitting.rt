@@ -2,16 +2,17 @@ ghost use Rattle.std.specs.Prelude.{◌≡◌, ◌<ℤ◌, false, IfSome, None};
 ghost use Rattle.mill_base.specs.Sizes.{IsCutter, radius_of};
 ghost use Rattle.mill_job.specs.Documents.{fit_faults};
 ghost use Rattle.mill_job.specs.Holders.{is_narrow};
-ghost use Rattle.mill_job.specs.Jobs.{FitsJob, IsJob};
+ghost use Rattle.mill_job.specs.Jobs.{FitsJob};
 ghost use Rattle.mill_job.specs.Tables.{first};
 
 use crate::fault::JobFault;
+use crate::fields::JobFields;
 use crate::job::Job;
 use crate::key::Key;
 use mill_base::Cutter;
 
 /// Whether the job has a holder that isn't wider than a cutter.
-pub fn has_narrow_holder(job: &Job, cutter: &Cutter) -> bool
+pub fn has_narrow_holder(job: &JobFields, cutter: &Cutter) -> bool
     ensures value { result ≡ is_narrow (radius_of cutter.now) job.now.holder }
     ensures no { result ≡ false → IfSome job.now.holder (λ holder. radius_of cutter.now <ℤ holder.radius) }
 {
@@ -26,13 +27,13 @@ impl Job {
     /// its holder isn't wider.
     pub fn cutter_fault(&self, cutter: &Cutter) -> Option<JobFault>
         requires { IsCutter cutter.now }
-        ensures value { result ≡ first (fit_faults self.now cutter.now) }
-        ensures none { result ≡ None → FitsJob self.now cutter.now }
+        ensures value { result ≡ first (fit_faults self.now.fields cutter.now) }
+        ensures none { result ≡ None → FitsJob self.now.fields cutter.now }
     {
-        if cutter.radius() < self.band {
+        if cutter.radius() < self.fields.band {
             return Some(JobFault::Relation(Key::Band, Key::Radius));
         }
-        if has_narrow_holder(self, cutter) {
+        if has_narrow_holder(&self.fields, cutter) {
             return Some(JobFault::Relation(Key::Radius, Key::HolderRadius));
         }
         None
@@ -40,11 +41,14 @@ impl Job {
 
     /// The same job with another cutter. It needs no memory.
     pub fn with_cutter(&self, cutter: Cutter) -> Job
-        requires job { IsJob self.now }
-        requires fits { FitsJob self.now cutter }
-        ensures value { result ≡ record self.now { cutter = cutter } }
-        ensures in_range { IsJob result }
+        requires { FitsJob self.now.fields cutter }
+        ensures { result.fields ≡ record self.now.fields { cutter = cutter } }
     {
-        Job { cutter, ..*self }
+        Job {
+            fields: JobFields {
+                cutter,
+                ..self.fields
+            },
+        }
     }
 }

@@ -8,8 +8,8 @@ ghost use Rattle.mill_job.specs.inner.Ranged.{AreExtras, ArePaths, IsMeasure, Is
 
 use crate::arrays::{area, home, levels};
 use crate::fault::JobFault;
+use crate::fields::Place;
 use crate::holder::holder;
-use crate::job::Place;
 use crate::key::Key;
 use crate::levels::Levels;
 use crate::limits::MAX_DISTANCE;
@@ -18,7 +18,7 @@ use mill_base::{Box2, Holder, Unit};
 use mill_decimal::Snap;
 use toml::Table;
 
-/// Where a job's stock stands, and from where its programs start, as in the fields of `Job`.
+/// Where a job's stock stands, and from where its programs start, as in `JobFields`.
 #[derive(Clone, Copy)]
 pub struct Space {
     pub floor: i32,
@@ -28,7 +28,7 @@ pub struct Space {
     pub home: Place,
 }
 
-/// How finely a job's stock and moves are looked at, and how exactly is cut, as in the fields of `Job`.
+/// How finely a job's stock and moves are looked at, and how exactly is cut, as in `JobFields`.
 #[derive(Clone, Copy)]
 pub struct Measure {
     pub pitch: i32,
@@ -37,7 +37,7 @@ pub struct Measure {
     pub band: i32,
 }
 
-/// By which paths a job's plans go, as in the fields of `Job`.
+/// By which paths a job's plans go, as in `JobFields`.
 #[derive(Clone, Copy)]
 pub struct Paths {
     pub lift: i32,
@@ -48,7 +48,7 @@ pub struct Paths {
     pub levels: Levels,
 }
 
-/// What a document may say beside how is cut, as in the fields of `Job`.
+/// What a document may say beside how is cut, as in `JobFields`.
 #[derive(Clone, Copy)]
 pub struct Extras {
     pub snap: Snap,

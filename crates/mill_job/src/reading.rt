@@ -1,5 +1,6 @@
 ghost use Rattle.std.specs.Prelude.{◌≡◌, ◌++◌, IfOk};
 ghost use Rattle.toml.specs.View.{table_view};
+ghost use Rattle.mill_job.specs.Answered.{fields_of};
 ghost use Rattle.mill_job.specs.Cutters.{cutter_faults};
 ghost use Rattle.mill_job.specs.Documents.{GivesJob, job_with, key_faults_in, relation_faults};
 ghost use Rattle.mill_job.specs.Jobs.{IsJob};
@@ -10,6 +11,7 @@ ghost use Rattle.mill_job.specs.inner.Ranged.{AreExtras, ArePaths, IsMeasure, Is
 use crate::cutter::{cutter, outline_in};
 use crate::document::{first_unknown, read_document};
 use crate::fault::JobFault;
+use crate::fields::JobFields;
 use crate::groups::{Extras, Measure, Paths, Space, extras_in, measure_in, paths_in, space_in};
 use crate::job::Job;
 use crate::key::JOB_KEYS;
@@ -20,7 +22,7 @@ use mill_base::{Cutter, Unit};
 use std::alloc::Global;
 use toml::Table;
 
-/// The job of these values.
+/// The numbers of a job of these values.
 fn assembled(
     unit: Unit,
     cutter: Cutter,
@@ -28,14 +30,14 @@ fn assembled(
     measure: Measure,
     paths: Paths,
     extras: Extras,
-) -> Job
+) -> JobFields
     requires space_ok { IsSpace unit space }
     requires measure_ok { IsMeasure measure }
     requires paths_ok { ArePaths unit paths }
     requires extras_ok { AreExtras unit extras }
     ensures { result ≡ job_of_groups unit cutter space measure paths extras }
 {
-    Job {
+    JobFields {
         unit,
         cutter,
         floor: space.floor,
@@ -60,8 +62,8 @@ fn assembled(
     }
 }
 
-/// The job, or the fault if there is one.
-fn unless(fault: Option<JobFault>, job: Job) -> Result<Job, JobFault>
+/// The numbers, or the fault if there is one.
+fn unless(fault: Option<JobFault>, job: JobFields) -> Result<JobFields, JobFault>
     ensures { result ≡ checked fault job }
 {
     match fault {
@@ -70,8 +72,9 @@ fn unless(fault: Option<JobFault>, job: Job) -> Result<Job, JobFault>
     }
 }
 
-/// The job of a document that has no unknown key, in a unit, whatever the document says of it.
-fn job_in(table: &Table, unit: Unit) -> Result<Job, JobFault>
+/// The numbers of the job of a document that has no unknown key, in a unit, whatever the document
+/// says of it.
+fn fields_in(table: &Table, unit: Unit) -> Result<JobFields, JobFault>
     ensures value { result ≡ checked (first (key_faults_in unit (table_view table.now) ++ cutter_faults (table_view table.now) ++ relation_faults (job_with unit (table_view table.now)))) (job_with unit (table_view table.now)) }
     ensures in_range { IfOk result IsJob }
 {
@@ -81,8 +84,20 @@ fn job_in(table: &Table, unit: Unit) -> Result<Job, JobFault>
     let paths = paths_in(table, unit, measure.pitch)?;
     let extras = extras_in(table, unit)?;
     let cutter = cutter(outline)?;
-    let job = assembled(unit, cutter, space, measure, paths, extras);
-    unless(relation_fault(&job), job)
+    let fields = assembled(unit, cutter, space, measure, paths, extras);
+    unless(relation_fault(&fields), fields)
+}
+
+/// The numbers of the job that a text is, as [`read_job`] reads it.
+fn read_fields(alloc: Global, text: &[u8]) -> Result<JobFields, JobFault>
+    ensures gives { GivesJob text.now result }
+    ensures in_range { IfOk result IsJob }
+{
+    let table = read_document(alloc, text)?;
+    match first_unknown(&table, &JOB_KEYS) {
+        Some(key) => Err(JobFault::Unknown(Name::copied(alloc, key.as_str())?)),
+        None => fields_in(&table, unit(&table)?),
+    }
 }
 
 /// Reads a job: a TOML 1.0 document with each key of [`Key`] and no other; `unit`, `snap`, `lift`,
@@ -112,12 +127,8 @@ fn job_in(table: &Table, unit: Unit) -> Result<Job, JobFault>
 /// range; a relation that fails. Of `holder_radius` and `stickout` one is missing where the other is
 /// there.
 pub fn read_job(alloc: Global, text: &[u8]) -> Result<Job, JobFault>
-    ensures gives { GivesJob text.now result }
-    ensures in_range { IfOk result IsJob }
+    ensures { GivesJob text.now (fields_of result) }
 {
-    let table = read_document(alloc, text)?;
-    match first_unknown(&table, &JOB_KEYS) {
-        Some(key) => Err(JobFault::Unknown(Name::copied(alloc, key.as_str())?)),
-        None => job_in(&table, unit(&table)?),
-    }
+    let fields = read_fields(alloc, text)?;
+    Ok(Job { fields })
 }

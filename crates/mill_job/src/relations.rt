@@ -10,15 +10,15 @@ ghost use Rattle.mill_job.specs.inner.Relations.{IsCut, IsRelated, IsStock, cut_
 ghost use Rattle.mill_job.specs.inner.Ranged.{IsRanged};
 
 use crate::fault::JobFault;
+use crate::fields::JobFields;
 use crate::fitting::has_narrow_holder;
-use crate::job::Job;
 use crate::key::Key;
 use crate::limits::MAX_LAYERS;
 use crate::positions::count;
 use mill_base::MAX_COLUMNS;
 
 /// Whether roughing takes off more layers than it may.
-fn has_many_layers(job: &Job) -> bool
+fn has_many_layers(job: &JobFields) -> bool
     requires floor_ok { Within (greatest_of job.now.unit) job.now.floor }
     requires top_ok { Within (greatest_of job.now.unit) job.now.top }
     requires layer_ok { IsFrom (pos 0) (pos (greatest_of job.now.unit)) job.now.layer }
@@ -29,7 +29,7 @@ fn has_many_layers(job: &Job) -> bool
 }
 
 /// Whether each level is from the floor on and under the top.
-fn has_levels_in_stock(job: &Job) -> bool
+fn has_levels_in_stock(job: &JobFields) -> bool
     ensures value { result ≡ list_all (is_level job.now.floor job.now.top) job.now.levels }
     ensures yes { IsTrue result → All (IsLevel job.now.floor job.now.top) job.now.levels }
 {
@@ -40,7 +40,7 @@ fn has_levels_in_stock(job: &Job) -> bool
 }
 
 /// How many columns stand over the job's area.
-fn column_total(job: &Job) -> u64
+fn column_total(job: &JobFields) -> u64
     requires { IsRanged job.now }
     ensures { result ≡ row_count job.now * column_count job.now }
 {
@@ -50,7 +50,7 @@ fn column_total(job: &Job) -> u64
 }
 
 /// The first relation that fails between a job's heights, or of its area and its pitch.
-fn stock_fault(job: &Job) -> Option<JobFault>
+fn stock_fault(job: &JobFields) -> Option<JobFault>
     requires { IsRanged job.now }
     ensures value { result ≡ first (stock_faults job.now) }
     ensures none { result ≡ None → IsStock job.now }
@@ -69,7 +69,7 @@ fn stock_fault(job: &Job) -> Option<JobFault>
 
 /// The first relation that fails between how a job's stock is cut and its cutter, its stock or its
 /// holder.
-fn cut_fault(job: &Job) -> Option<JobFault>
+fn cut_fault(job: &JobFields) -> Option<JobFault>
     requires { IsRanged job.now }
     ensures value { result ≡ first (cut_faults job.now) }
     ensures none { result ≡ None → IsCut job.now }
@@ -90,7 +90,7 @@ fn cut_fault(job: &Job) -> Option<JobFault>
 }
 
 /// The first relation between the values of a job that fails.
-pub fn relation_fault(job: &Job) -> Option<JobFault>
+pub fn relation_fault(job: &JobFields) -> Option<JobFault>
     requires { IsRanged job.now }
     ensures value { result ≡ first (relation_faults job.now) }
     ensures none { result ≡ None → IsRelated job.now }

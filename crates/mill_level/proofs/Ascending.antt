@@ -1,6 +1,6 @@
 -- Runs that ascend, and the positions that stand in them.
-use Rattle.std.specs.Prelude.{◌≡◌, ℕ, ◌+◌, ◌≤◌, ◌<◌, ℤ, ◌<ℤ◌, ◌≤ℤ◌, int_le, Bool, true, false, List, length, slice_index_or, MatchBool, refl}
-use Rattle.std.proofs.Common.{◌⊎◌, inl, inr, arith, sym, subst}
+use Rattle.std.specs.Prelude.{◌≡◌, ℕ, ◌≤◌, ◌<◌, ℤ, ◌<ℤ◌, ◌≤ℤ◌, int_le, Bool, true, false, List, length, slice_index_or, MatchBool, refl}
+use Rattle.std.proofs.Common.{inl, inr, arith, sym, subst}
 use Rattle.std.proofs.lemmas.Bool.{cases_lt}
 use Rattle.std.proofs.lemmas.Int.{ints, by_lt_z}
 use Rattle.std.proofs.lemmas.List.{get_or_default}
@@ -44,25 +44,13 @@ later_too runs v w i order h = record { few = h.few; each = λ k run below. chai
     chain : (a : ℤ) → a <ℤ v → a <ℤ w
     chain a h = omega (h, order, arith, ints)
 
--- one more run that ends before it, and one that doesn't
-pub one_more_before : (runs : List Run) (v : ℤ) (i : ℕ) (d : Run) → i < length runs → (slice_index_or runs i d).last <ℤ v → EndBefore runs v i → EndBefore runs v (i + 1)
-one_more_before runs v i d inside ends h = record { few = omega (inside, arith); each = λ k run below. by k run (cases_lt k i) below }
-  where
-    by : (k : ℕ) (run : Run) → (k < i) ⊎ (i ≤ k) → k < i + 1 → (slice_index_or runs k run).last <ℤ v
-    by k run (inl less) below = h.each k run less
-    by k run (inr more) below =
-        let same : i ≡ k = omega (more, below, arith) in
-        subst (λ (n : ℕ). (slice_index_or runs n run).last <ℤ v) same (subst (λ (r : Run). r.last <ℤ v) (get_or_default runs i d run inside) ends)
-
+-- the next run doesn't end before it: no later one does
 pub stops_before : (runs : List Run) (v : ℤ) (i : ℕ) (d : Run) → AreAscending runs → v ≤ℤ (slice_index_or runs i d).last → EndBefore runs v i → IsBefore runs v i
 stops_before runs v i d ascend ends h = record {
   before = h;
   after = λ k run over inside.
       through v _ _ (subst (λ (r : Run). v ≤ℤ r.last) (get_or_default runs i d run (less i k (length runs) over inside)) ends) (ascend.lasts i k run over inside);
 }
-
-pub all_before : (runs : List Run) (v : ℤ) (i : ℕ) → length runs ≤ i → EndBefore runs v i → IsBefore runs v i
-all_before runs v i past h = record { before = h; after = λ k run over inside. absurd (omega (past, over, inside, arith)) }
 
 -- the run of this number is one that a position stands in
 pub record IsAt (runs : List Run) (v : ℤ) (k : ℕ) (run : Run) : Type 0 where

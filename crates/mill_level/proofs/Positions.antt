@@ -30,18 +30,6 @@ module _ (lo hi step : ℤ) where
     at : (k : ℕ) (v : ℤ) → k < length positions → slice_index_or positions k v ≡ lo +ℤ pos (min (k * nat_abs step) span)
     at k v inside = get_or_default positions k v (pos 0) inside ∙ get_or-positions lo hi step k order some inside
 
-    pub position_over : (k : ℕ) (v : ℤ) → k < length positions → lo ≤ℤ slice_index_or positions k v
-    position_over k v inside = subst (λ z. lo ≤ℤ z) (sym (at k v inside)) (over lo (min (k * nat_abs step) span))
-      where
-        over : (a : ℤ) (n : ℕ) → a ≤ℤ (a +ℤ pos n)
-        over a n = omega (arith, ints)
-
-    pub position_under : (k : ℕ) (v : ℤ) → k < length positions → slice_index_or positions k v ≤ℤ hi
-    position_under k v inside = subst (λ z. z ≤ℤ hi) (sym (at k v inside)) (under (k * nat_abs step))
-      where
-        under : (n : ℕ) → (lo +ℤ pos (min n (nat_abs (hi -ℤ lo)))) ≤ℤ hi
-        under n = omega (order, arith, ints)
-
     -- a position before the last is a whole number of steps from the first
     stepped : (i j : ℕ) → i < j → j < length positions → min (i * nat_abs step) span < min (j * nat_abs step) span
     stepped i j less inside =

@@ -108,7 +108,7 @@ fn counted_runs<L: Ledger>(
 {
     let mut steps = Steps::<L>::new(blank);
     push_after(
-        alloc, cut.part, cut.cells, &cut.tool, fiber, from, to, ends, &mut steps,
+        alloc, cut.part, &cut.tool, fiber, from, to, ends, &mut steps,
     )
 }
 

@@ -24,7 +24,7 @@ pub fn level_map(alloc: Global, cut: &Cut<'_>, lattice: &Lattice) -> Result<Leve
     let nodes = xs.len() * ys.len();
     let mut blocked = Vec::with_capacity(alloc, nodes)?;
     let mut places = Vec::with_capacity(alloc, 2 * nodes)?;
-    let mut ends = Ends::new(alloc, cut.part.tris().len())?;
+    let mut ends = Ends::new(alloc, cut.part.part().tris().len())?;
     for y in &ys {
         add_row(alloc, cut, *y, &xs, &mut ends, &mut blocked, &mut places)?;
     }

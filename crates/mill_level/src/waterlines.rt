@@ -1,9 +1,8 @@
-ghost use Rattle.std.specs.Prelude.{◌≡◌, ◌↔◌, ◌≤◌, ℕ, IfOk, IsErrOf, map as map_list};
+ghost use Rattle.std.specs.Prelude.{◌↔◌, ◌≤◌, ℕ, IfOk, IsErrOf, map as map_list};
 ghost use Rattle.mill_base.specs.Numbers.{Within};
 ghost use Rattle.mill_base.specs.declared.limits.TheConstants.{MAX_COORDINATE, MAX_NODES};
 ghost use Rattle.mill_base.specs.Lattices.{node_count, IsLattice};
 ghost use Rattle.mill_base.specs.Tools.{IsTool};
-ghost use Rattle.mill_cells.specs.Sorted.{sorted_of};
 ghost use Rattle.mill_level.specs.declared.fault.LevelFault.TheVariants.{TooManyNodes};
 ghost use Rattle.mill_level.specs.Waterlines.{HasManyNodes, IsWaterline, seen};
 
@@ -14,16 +13,14 @@ use crate::map::level_map;
 use crate::outline::chains_at;
 use crate::trails::trails;
 use mill_base::{Lattice, MAX_NODES, Tool};
-use mill_cells::Cells;
-use mill_part::Part;
+use mill_part::SortedPart;
 use std::alloc::Global;
 
 /// The waterline of a part at height z: the chains of the places between nodes of the lattice at
 /// which the tool gouges and neighbours at which it doesn't, each at the last free place before
 /// the blocked ones, which are on the left of the way. They come in the order of their first points.
 ///
-/// `cells` are those of the part's triangles. Lengths are in units, of at most
-/// `MAX_COORDINATE` in magnitude.
+/// Lengths are in units, of at most `MAX_COORDINATE` in magnitude.
 ///
 /// # Errors
 ///
@@ -31,13 +28,11 @@ use std::alloc::Global;
 /// of memory.
 pub fn waterline(
     alloc: Global,
-    part: &Part,
-    cells: &Cells,
+    part: &SortedPart,
     tool: &Tool,
     z: i32,
     lattice: &Lattice,
 ) -> Result<Vec<Chain>, LevelFault>
-    requires cells_ok { cells.now ≡ sorted_of part.now }
     requires tool_ok { IsTool tool.now }
     requires z_ok { Within MAX_COORDINATE z }
     requires lattice_ok { IsLattice lattice.now }
@@ -51,7 +46,6 @@ pub fn waterline(
     }
     let cut = Cut {
         part,
-        cells,
         tool: *tool,
         z,
     };

@@ -3,10 +3,10 @@ ghost use Rattle.mill_base.specs.Numbers.{Within};
 ghost use Rattle.mill_base.specs.Tools.{IsTool};
 ghost use Rattle.mill_base.specs.declared.limits.TheConstants.{MAX_COORDINATE};
 
-use crate::tables::{coordinate, halves, lattice, part_of, tool};
 use mill_base::{Lattice, Pt3, Tool};
 use mill_level::{Chain, joins_are_apart, one_waterline, waterline};
-use mill_part::{Part, SortedPart};
+use mill_part::SortedPart;
+use mill_tables::{coordinate, halves, lattice, part_of, tool};
 use std::alloc::Global;
 use std::process::Abort;
 use std::test::Fail;
@@ -55,7 +55,7 @@ fn told(alloc: Global, chains: &[Chain], z: i32) -> Result<String, Fail> {
 /// What the waterline of a tool comes to.
 fn told_round(
     alloc: Global,
-    part: &Part,
+    part: &SortedPart,
     held: &Tool,
     z: i32,
     nodes: &Lattice,
@@ -64,8 +64,7 @@ fn told_round(
     requires z_ok { Within MAX_COORDINATE z }
     requires nodes_ok { IsLattice nodes.now }
 {
-    let shape = SortedPart::new(alloc, part)?;
-    match waterline(alloc, shape.part(), shape.cells(), held, z, nodes) {
+    match waterline(alloc, part, held, z, nodes) {
         Ok(chains) => told(alloc, &chains, z),
         Err(fault) => Ok(format!(in alloc; "{fault:?}")?),
     }

@@ -7,5 +7,3 @@
 mod level;
 #[cfg(test)]
 mod push;
-#[cfg(test)]
-mod tables;

@@ -4,12 +4,12 @@ ghost use Rattle.mill_base.specs.declared.limits.TheConstants.{MAX_COORDINATE};
 ghost use Rattle.mill_base.specs.Tools.{IsTool};
 ghost use Rattle.mill_push.specs.Touches.{IsFiber};
 
-use crate::tables::{coordinate, first_word, halves, part_of, place, tool};
 use mill_base::{Steps, Tool};
-use mill_part::{Part, SortedPart};
+use mill_part::SortedPart;
 use mill_push::{
     Axis, Ends, Fiber, Run, one_list_of_runs, one_stretch, push_after, runs_hold_blocked,
 };
+use mill_tables::{coordinate, first_word, halves, part_of, place, tool};
 use std::alloc::Global;
 use std::marker::Brand;
 use std::process::Abort;
@@ -31,7 +31,7 @@ fn fiber_of(text: &str) -> Result<Fiber, Fail>
 /// The runs of the tool, after other pushes, by a counter of its own.
 fn counted<L: Ledger>(
     alloc: Global,
-    part: &Part,
+    part: &SortedPart,
     tool: &Tool,
     fiber: Fiber,
     from: i32,
@@ -50,10 +50,8 @@ fn counted<L: Ledger>(
     if from > to {
         return Err(Fail::from("the window has no position"));
     }
-    let shape = SortedPart::new(alloc, part)?;
     let mut steps = Steps::<L>::new(blank);
-    let (part, cells) = (shape.part(), shape.cells());
-    Ok(push_after(alloc, part, cells, tool, fiber, from, to, ends, &mut steps)?)
+    Ok(push_after(alloc, part, tool, fiber, from, to, ends, &mut steps)?)
 }
 
 fn add(alloc: Global, told: &mut String, run: &Run) -> Result<(), Fail> {
@@ -82,7 +80,7 @@ fn told(alloc: Global, runs: &[Run]) -> Result<String, Fail> {
 fn told_of(
     alloc: Global,
     tool: &Tool,
-    part: &Part,
+    part: &SortedPart,
     ends: &mut Ends,
     text: &str,
 ) -> Result<String, Fail>
@@ -99,7 +97,7 @@ fn told_of(
 fn look_at_fiber<R: Abort + AllocGlobal>(
     rt: &R,
     tool: &Tool,
-    part: &Part,
+    part: &SortedPart,
     ends: &mut Ends,
     row: &str,
 ) -> Result<(), Fail>
@@ -114,12 +112,12 @@ fn look_at_fiber<R: Abort + AllocGlobal>(
 fn look_at_fibers<R: Abort + AllocGlobal>(
     rt: &R,
     tool: &Tool,
-    part: &Part,
+    part: &SortedPart,
     table: &str,
 ) -> Result<(), Fail>
     requires { IsTool tool.now }
 {
-    let mut ends = Ends::new(rt.alloc(), part.tris().len())?;
+    let mut ends = Ends::new(rt.alloc(), part.part().tris().len())?;
     for row in table.lines() {
         look_at_fiber(rt, tool, part, &mut ends, row)?;
     }

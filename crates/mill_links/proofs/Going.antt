@@ -22,7 +22,7 @@ use Rattle.mill_dexel.proofs.Limits.{passes_limit_after_cut}
 use Rattle.mill_gouge.specs.Gouges.{ToolPassesPart}
 use Rattle.mill_job.specs.Columns.{column_x, column_y, home}
 use Rattle.mill_job.specs.Jobs.{IsJob, tool_of}
-use Rattle.mill_job.specs.declared.job.Job.{Job}
+use Rattle.mill_job.specs.declared.fields.JobFields.{JobFields}
 use Rattle.mill_sweep.specs.Halving.{PassesPoint}
 use Rattle.mill_sweep.specs.Vertical.{StaysOver}
 use Rattle.mill_sweep.proofs.Far.{top_passes}
@@ -63,7 +63,7 @@ limited_by : (floor top t depth z : ℤ) → t ≤ℤ top → floor ≤ℤ z →
 limited_by floor top t depth z under over near = grind (under, over, near, arith, ints)
 
 -- lists of safe moves, one after the other
-module _ (job : Job) (part : List Tri) where
+module _ (job : JobFields) (part : List Tri) where
   safe-append : (done ms ns : List Move) → AreSafe job part done ms → AreSafe job part (done ++ ms) ns → AreSafe job part done (ms ++ ns)
   safe-append done [] ns none rest = subst (λ l. AreSafe job part l ns) (append-nil done) rest
   safe-append done (m ∷ ms) ns first rest =
@@ -92,7 +92,7 @@ module _ (job : Job) (part : List Tri) where
   }
 
 -- the moves themselves
-module _ (job : Job) (part : List Tri) (ok : IsJob job) (under : IsUnder part job.top) where
+module _ (job : JobFields) (part : List Tri) (ok : IsJob job) (under : IsUnder part job.top) where
   -- a rapid over the stock
   over_safe : (done : List Move) (start end : Pt3) → MoveInUnitRange job.unit (rapid_to start end) → job.top ≤ℤ start.z → job.top ≤ℤ end.z
       → IsSafeMove job part done (rapid_to start end)

@@ -32,14 +32,10 @@ on_either (Err e) old new added ok err = on_same old new err
 pub on_kept : (old new : List Move) → GoesOn old new → take (length old) new ≡ old
 on_kept old new on = ap (λ l. take (length old) l) on.joined ∙ take-append_seam old on.added
 
--- what follows from what stands with a value or with a fault, and what stands anyhow
+-- what follows from what stands with a value
 pub ok_gives : {T E : Type 0} {P Q : Type 0} (r : Result T E) → (P → Q) → OnOk r P → OnOk r Q
 ok_gives (Ok v) f h = f h
 ok_gives (Err e) f h = tt
-
-pub err_gives : {T E : Type 0} {P Q : Type 0} (r : Result T E) → (P → Q) → OnErr r P → OnErr r Q
-err_gives (Ok v) f h = tt
-err_gives (Err e) f h = f h
 
 -- what stands once what was added is taken back, where not all was
 pub all_stands : {T E : Type 0} (added result : Result T E) (old mid new moves : List Move) → result ≡ added → OnOk added (mid ≡ old ++ moves) → OnOk result (new ≡ mid)

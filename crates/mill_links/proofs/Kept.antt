@@ -10,7 +10,7 @@ use Rattle.mill_base.proofs.Ranges.{within_of_unit, coordinate}
 use Rattle.mill_base.specs.declared.motion.Kind.TheVariants.{Feed}
 use Rattle.mill_dexel.specs.Tops.{IsTested}
 use Rattle.mill_job.specs.Jobs.{IsJob}
-use Rattle.mill_job.specs.declared.job.Job.{Job}
+use Rattle.mill_job.specs.declared.fields.JobFields.{JobFields}
 
 pub unit_coordinate : (unit : Unit) (z : ℤ) → Within (greatest_of unit) z → stored w32 z ≡ z
 unit_coordinate unit z h = coordinate z (within_of_unit unit z h)
@@ -20,19 +20,19 @@ pub between : (m : ℕ) (a b z : ℤ) → Within m a → Within m b → a ≤ℤ
 between m a b z a_ok b_ok low high = let p = a_ok.within in let q = b_ok.within in record { within = omega (p, q, low, high, arith, ints) }
 
 -- the greatest depth of cut, and what its test says
-pub limit_within : (job : Job) → IsJob job → Within (greatest_of job.unit) job.max_cut
+pub limit_within : (job : JobFields) → IsJob job → Within (greatest_of job.unit) job.max_cut
 limit_within job ok = within (greatest_of job.unit) job.max_cut ok.max_cut_ok.low ok.max_cut_ok.high
   where
     within : (most : ℕ) (d : ℤ) → (pos 0) ≤ℤ d → d ≤ℤ pos most → Within most d
     within most d low high = record { within = omega (low, high, arith, ints) }
 
-pub limit_stored : (job : Job) → IsJob job → stored w32 job.max_cut ≡ job.max_cut
+pub limit_stored : (job : JobFields) → IsJob job → stored w32 job.max_cut ≡ job.max_cut
 limit_stored job ok = unit_coordinate job.unit job.max_cut (limit_within job ok)
 
-pub no_limit : (job : Job) → IsJob job → of_z w32 job.max_cut ≡ 0 → job.max_cut ≡ pos 0
+pub no_limit : (job : JobFields) → IsJob job → of_z w32 job.max_cut ≡ 0 → job.max_cut ≡ pos 0
 no_limit job ok none = sym (limit_stored job ok) ∙ ap (λ n. to_z w32 n) none
 
-pub some_limit : (job : Job) → IsJob job → (of_z w32 job.max_cut ≢ 0) → (pos 0) <ℤ job.max_cut
+pub some_limit : (job : JobFields) → IsJob job → (of_z w32 job.max_cut ≢ 0) → (pos 0) <ℤ job.max_cut
 some_limit job ok some = over job.max_cut ok.max_cut_ok.low (λ none. some (ap (λ d. of_z w32 d) none))
   where
     over : (d : ℤ) → (pos 0) ≤ℤ d → d ≢ pos 0 → (pos 0) <ℤ d
@@ -49,7 +49,7 @@ some_limit job ok some = over job.max_cut ok.max_cut_ok.low (λ none. some (ap (
         by false e = absurd (other (is d low e))
 
 -- without a limit no feed is tested
-pub untested : (job : Job) → job.max_cut ≡ pos 0 → ¬ IsTested job Feed
+pub untested : (job : JobFields) → job.max_cut ≡ pos 0 → ¬ IsTested job Feed
 untested job none tested = no job.max_cut none tested
   where
     no : (d : ℤ) → d ≡ pos 0 → (pos 0) <ℤ d → ⊥

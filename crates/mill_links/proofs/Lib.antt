@@ -9,3 +9,4 @@ mod Straight
 mod ToolLemmas
 pub mod Going
 pub mod Steps
+mod Stages

@@ -9,7 +9,7 @@ use Rattle.mill_base.specs.declared.motion.Move.{Move}
 use Rattle.mill_base.specs.declared.points.Pt3.{Pt3}
 use Rattle.mill_base.proofs.Ranges.{within_of_unit}
 use Rattle.mill_job.specs.Jobs.{IsJob}
-use Rattle.mill_job.specs.declared.job.Job.{Job}
+use Rattle.mill_job.specs.declared.fields.JobFields.{JobFields}
 use Rattle.mill_links.specs.Links.{at_height, feed_to, peck_count, pecks, plunge}
 use Rattle.mill_links.specs.inner.Linking.{GoesOn}
 use Rattle.mill_links.proofs.Joining.{on_more, on_on, on_same}
@@ -17,13 +17,13 @@ use Rattle.mill_links.proofs.Kept.{between}
 use Rattle.mill_links.proofs.Pecks.{Fit, pecks_fit}
 
 -- the list has the first pecks of the way down, so many are left, and the next feed begins at the height z
-pub record Plunges (job : Job) (at : Pt3) (old out : List Move) (left : ℕ) (z : ℤ) : Type 0 where
+pub record Plunges (job : JobFields) (at : Pt3) (old out : List Move) (left : ℕ) (z : ℤ) : Type 0 where
   pub on : GoesOn old out
   pub rest : out ++ pecks left job.max_cut at z ≡ old ++ plunge job at
   pub high : z ≤ℤ job.top
   pub fit : at.z ≤ℤ job.top → Fit left job.max_cut z at.z
 
-module _ (job : Job) (at : Pt3) (old : List Move) (ok : IsJob job) where
+module _ (job : JobFields) (at : Pt3) (old : List Move) (ok : IsJob job) where
   pub at_first : Plunges job at old old (peck_count job.max_cut (job.top -ℤ at.z)) job.top
   at_first = record {
     on = on_same old old refl;

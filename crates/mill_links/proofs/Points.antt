@@ -17,7 +17,7 @@ both_hold true false e = absurd (clash e)
 both_hold false d e = absurd (clash e)
 
 -- a number is the same as itself
-same_number : (x : ℤ) → int_eq x x ≡ true
+pub same_number : (x : ℤ) → int_eq x x ≡ true
 same_number x = (Decides-int_eq x x).1 refl
 
 pub same_number_is : (x y : ℤ) → int_eq x y ≡ true → x ≡ y

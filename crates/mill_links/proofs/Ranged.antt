@@ -10,7 +10,7 @@ use Rattle.mill_base.specs.declared.motion.Move.{Move}
 use Rattle.mill_base.specs.declared.points.Pt3.{Pt3}
 use Rattle.mill_base.proofs.Ranges.{within_of_unit}
 use Rattle.mill_job.specs.Jobs.{IsJob}
-use Rattle.mill_job.specs.declared.job.Job.{Job}
+use Rattle.mill_job.specs.declared.fields.JobFields.{JobFields}
 use Rattle.mill_links.specs.Links.{is_same_point, at_height, climb, cross, descend, detour, feed_to, is_over_place, peck_count, pecks, plunge, rapid_to}
 use Rattle.mill_links.specs.declared.visit.Visit.{Visit}
 use Rattle.mill_links.specs.inner.Linking.{link_moves}
@@ -42,7 +42,7 @@ pecks_ranged (suc n) depth at z least ok high fit =
     under : (z depth : ℤ) → (pos 0) ≤ℤ depth → (z -ℤ depth) ≤ℤ z
     under z depth least = omega (least, arith, ints)
 
-module _ (job : Job) (ok : IsJob job) where
+module _ (job : JobFields) (ok : IsJob job) where
   top_ok : Within MAX_COORDINATE job.top
   top_ok = within_of_unit job.unit job.top ok.top_ok
 

@@ -7,7 +7,7 @@ use Rattle.std.proofs.lemmas.List.{append_assoc, append-nil}
 use Rattle.mill_base.specs.declared.points.Pt3.{Pt3}
 use Rattle.mill_base.specs.declared.points.Tri.{Tri}
 use Rattle.mill_base.specs.declared.motion.Move.{Move}
-use Rattle.mill_job.specs.declared.job.Job.{Job}
+use Rattle.mill_job.specs.declared.fields.JobFields.{JobFields}
 use Rattle.mill_links.specs.Links.{IsLink}
 use Rattle.mill_links.specs.Tours.{AreLinks, IsTour, last_place}
 use Rattle.mill_links.specs.declared.visit.Visit.{Visit}
@@ -24,7 +24,7 @@ abbrev joined : List (List Move) → List Move
 joined links = flat_map (λ link. link) links
 
 -- links to visits and to others after them
-links_join : (job : Job) (part : List Tri) (done : List Move) (from : Pt3) (vs ws : List Visit) (ls ks : List (List Move)) → AreLinks job part done from vs ls
+links_join : (job : JobFields) (part : List Tri) (done : List Move) (from : Pt3) (vs ws : List Visit) (ls ks : List (List Move)) → AreLinks job part done from vs ls
     → AreLinks job part (done ++ joined ls) (last_place from vs) ws ks → AreLinks job part done from (vs ++ ws) (ls ++ ks)
 links_join job part done from [] ws [] ks first rest = subst (λ ms. AreLinks job part ms from ws ks) (append-nil done) rest
 links_join job part done from [] ws (l ∷ ls) ks first rest = absurd first
@@ -35,15 +35,15 @@ links_join job part done from (v ∷ vs) ws (l ∷ ls) ks first rest = (
 )
 
 -- a tour of no visit, and of one
-pub tour_nil : (job : Job) (part : List Tri) (done : List Move) (from : Pt3) → IsTour job part done from [] []
+pub tour_nil : (job : JobFields) (part : List Tri) (done : List Move) (from : Pt3) → IsTour job part done from [] []
 tour_nil job part done from = record { links = []; are = tt; joined = refl }
 
-tour_once : (job : Job) (part : List Tri) (done : List Move) (from : Pt3) (v : Visit) (link : List Move) → IsLink job part done from v link
+tour_once : (job : JobFields) (part : List Tri) (done : List Move) (from : Pt3) (v : Visit) (link : List Move) → IsLink job part done from v link
     → IsTour job part done from (v ∷ []) link
 tour_once job part done from v link is = record { links = link ∷ []; are = (is, tt); joined = sym (append-nil link) }
 
 -- a tour and another from where it ends are one
-pub tour_join : (job : Job) (part : List Tri) (done : List Move) (from : Pt3) (vs ws : List Visit) (a b : List Move) → IsTour job part done from vs a
+pub tour_join : (job : JobFields) (part : List Tri) (done : List Move) (from : Pt3) (vs ws : List Visit) (a b : List Move) → IsTour job part done from vs a
     → IsTour job part (done ++ a) (last_place from vs) ws b → IsTour job part done from (vs ++ ws) (a ++ b)
 tour_join job part done from vs ws a b first rest = record {
   links = first.links ++ rest.links;
@@ -56,7 +56,7 @@ tour_join job part done from vs ws a b first rest = record {
 }
 
 -- so are a tour and the link to one more visit
-pub tour_snoc : (job : Job) (part : List Tri) (done : List Move) (from : Pt3) (visits : List Visit) (v : Visit) (moves link : List Move)
+pub tour_snoc : (job : JobFields) (part : List Tri) (done : List Move) (from : Pt3) (visits : List Visit) (v : Visit) (moves link : List Move)
     → IsTour job part done from visits moves → IsLink job part (done ++ moves) (last_place from visits) v link
     → IsTour job part done from (visits ++ v ∷ []) (moves ++ link)
 tour_snoc job part done from visits v moves link so_far next =

@@ -5,7 +5,7 @@ use Rattle.mill_base.specs.declared.motion.Move.{Move}
 use Rattle.mill_base.specs.declared.points.Pt3.{Pt3}
 use Rattle.mill_base.specs.declared.points.Tri.{Tri}
 use Rattle.mill_dexel.specs.Tops.{ClearsColumns}
-use Rattle.mill_job.specs.declared.job.Job.{Job}
+use Rattle.mill_job.specs.declared.fields.JobFields.{JobFields}
 use Rattle.mill_links.specs.Links.{is_same_point, GoesClear, IsClear, IsLink, SaysClear, detour, feed_to}
 use Rattle.mill_links.specs.declared.visit.Visit.{Visit}
 use Rattle.mill_links.specs.inner.Linking.{GoesStraight, SaysStraight, link_moves}
@@ -15,7 +15,7 @@ use Rattle.mill_links.proofs.Points.{other_point, same_point}
 clash : true ≡ false → ⊥
 clash e = cc
 
-module _ (job : Job) (part : List Tri) (from : Pt3) (visit : Visit) where
+module _ (job : JobFields) (part : List Tri) (from : Pt3) (visit : Visit) where
   -- where the cutter isn't at the visit, it is the straight feed that is clear
   clear_feed : visit.at ≢ from → GoesClear job part from visit → IsClear job part from visit
   clear_feed away clear = elim clear [ inl there ↦ absurd (away there) | inr feed ↦ feed ]
@@ -73,7 +73,7 @@ module _ (job : Job) (part : List Tri) (from : Pt3) (visit : Visit) where
         by false e = away_by straight refl (other_point visit.at from false (sym e) refl)
 
 -- the three kinds of moves
-module _ (job : Job) (from : Pt3) (visit : Visit) (straight : Bool) where
+module _ (job : JobFields) (from : Pt3) (visit : Visit) (straight : Bool) where
   pub no_moves : is_same_point visit.at from ≡ true → link_moves job from visit straight ≡ []
   no_moves e = ap (λ (t : Bool). if t then [] else if straight then feed_to from visit.at ∷ [] else detour job from visit.at) e
 

@@ -6,10 +6,10 @@ use Rattle.mill_base.specs.declared.cutter.Cutter.TheVariants.{Flat}
 use Rattle.mill_base.specs.declared.motion.Move.{Move}
 use Rattle.mill_base.specs.declared.unit.Unit.TheVariants.{Hundredth}
 use Rattle.mill_decimal.specs.declared.snap.Snap.TheVariants.{Nearest}
-use Rattle.mill_job.specs.declared.job.Job.{Job}
+use Rattle.mill_job.specs.declared.fields.JobFields.{JobFields}
 use Rattle.mill_links.specs.Links.{feed_to, peck_count, plunge}
 
-abbrev plate : Job
+abbrev plate : JobFields
 plate = record { unit = Hundredth; cutter = Flat (pos 150); floor = pos 0; top = pos 300; clear = pos 400; area = record { x0 = pos 0; y0 = pos 0; x1 = pos 200; y1 = pos 200 }; home = record { x = pos 100; y = pos 100 }; pitch = pos 100; sample = pos 50; allowance = pos 0; band = pos 0; lift = pos 0; raster = pos 100; rough_raster = pos 100; layer = pos 0; rough_stock = pos 0; levels = []; snap = Nearest; max_cut = pos 0; holder = None; path_tol = None }
 
 -- so many pecks end over a place 200 under the top, and the last feed ends there; at the top, over it, and without a limit there is that feed alone

@@ -12,7 +12,7 @@ use Rattle.mill_dexel.specs.Tops.{ClearsColumns, IsTested}
 use Rattle.mill_gouge.specs.Gouges.{ToolPassesPart}
 use Rattle.mill_job.specs.Columns.{home}
 use Rattle.mill_job.specs.Jobs.{tool_of}
-use Rattle.mill_job.specs.declared.job.Job.{Job}
+use Rattle.mill_job.specs.declared.fields.JobFields.{JobFields}
 use Rattle.mill_links.specs.declared.visit.Visit.{Visit}
 
 -- how far one coordinate lies from another
@@ -37,7 +37,7 @@ abbrev pub at_height : Pt3 → ℤ → Pt3
 at_height p z = point_at p.x p.y z
 
 -- up to the clear height, from a place under it
-abbrev pub climb : Job → Pt3 → List Move
+abbrev pub climb : JobFields → Pt3 → List Move
 climb job from = if int_lt from.z job.clear then rapid_to from (at_height from job.clear) ∷ [] else []
 
 -- two places are one
@@ -49,11 +49,11 @@ abbrev pub is_over_place : Pt3 → Pt3 → Bool
 is_over_place p q = int_eq p.x q.x && int_eq p.y q.y
 
 -- across at the clear height, to another x or y
-abbrev pub cross : Job → Pt3 → Pt3 → List Move
+abbrev pub cross : JobFields → Pt3 → Pt3 → List Move
 cross job from at = if is_over_place from at then [] else rapid_to (at_height from job.clear) (at_height at job.clear) ∷ []
 
 -- from the clear height down to the top of the stock, where that is lower
-abbrev pub descend : Job → Pt3 → List Move
+abbrev pub descend : JobFields → Pt3 → List Move
 descend job at = if int_lt job.top job.clear then rapid_to (at_height at job.clear) (at_height at job.top) ∷ [] else []
 
 -- feeds straight down to a place, from the height z over it: so many go down by the depth each (pecks), and one more goes the rest of the way
@@ -66,30 +66,30 @@ abbrev pub peck_count : ℤ → ℤ → ℕ
 peck_count depth height = if int_lt (pos 0) depth && int_lt (pos 0) height then (nat_abs height - 1) / nat_abs depth else 0
 
 -- from the top of the stock down to the place, by as many pecks of the job's greatest depth of cut as end over it, and a feed for the rest
-abbrev pub plunge : Job → Pt3 → List Move
+abbrev pub plunge : JobFields → Pt3 → List Move
 plunge job at = pecks (peck_count job.max_cut (job.top -ℤ at.z)) job.max_cut at job.top
 
 -- the way round over everything: up, across and down
-abbrev pub detour : Job → Pt3 → Pt3 → List Move
+abbrev pub detour : JobFields → Pt3 → Pt3 → List Move
 detour job from at = climb job from ++ cross job from at ++ descend job at ++ plunge job at
 
 -- after the moves done so far the straight feed to the visit may be made: it is near, and on the feed the tool passes each triangle of the part, and the cutter cuts no column too deep
-pub record MayFeed (job : Job) (part : List Tri) (done : List Move) (from : Pt3) (visit : Visit) : Type 0 where
+pub record MayFeed (job : JobFields) (part : List Tri) (done : List Move) (from : Pt3) (visit : Visit) : Type 0 where
   pub near : IsNearBy from visit
   pub passes : ToolPassesPart (tool_of job) (feed_to from visit.at) part
   pub depth : ClearsColumns job done (feed_to from visit.at)
 
 -- what can be said of that without the stock: the visit is near, and on the feed the tool passes each triangle of the part
-pub record IsClear (job : Job) (part : List Tri) (from : Pt3) (visit : Visit) : Type 0 where
+pub record IsClear (job : JobFields) (part : List Tri) (from : Pt3) (visit : Visit) : Type 0 where
   pub near : IsNearBy from visit
   pub passes : ToolPassesPart (tool_of job) (feed_to from visit.at) part
 
 -- nothing but the stock may stand in the way of the link: the cutter is at the visit already, or the straight feed to it is clear
-abbrev pub GoesClear : Job → List Tri → Pt3 → Visit → Type 0
+abbrev pub GoesClear : JobFields → List Tri → Pt3 → Visit → Type 0
 GoesClear job part from visit = (visit.at ≡ from) ⊎ IsClear job part from visit
 
 -- the answer says whether that is so
-abbrev pub SaysClear : Job → List Tri → Pt3 → Visit → Bool → Type 0
+abbrev pub SaysClear : JobFields → List Tri → Pt3 → Visit → Bool → Type 0
 SaysClear job part from visit answer = IsTrue answer ↔ GoesClear job part from visit
 
 -- the cutter is at the visit already, and no move is made
@@ -98,31 +98,31 @@ pub record IsStay (from : Pt3) (visit : Visit) (moves : List Move) : Type 0 wher
   pub none : moves ≡ []
 
 -- it isn't there, the straight feed may be made, and it is
-pub record IsStraight (job : Job) (part : List Tri) (done : List Move) (from : Pt3) (visit : Visit) (moves : List Move) : Type 0 where
+pub record IsStraight (job : JobFields) (part : List Tri) (done : List Move) (from : Pt3) (visit : Visit) (moves : List Move) : Type 0 where
   pub away : visit.at ≢ from
   pub free : MayFeed job part done from visit
   pub feed : moves ≡ feed_to from visit.at ∷ []
 
 -- it isn't there, the straight feed may not be made, and the cutter goes round
-pub record IsDetour (job : Job) (part : List Tri) (done : List Move) (from : Pt3) (visit : Visit) (moves : List Move) : Type 0 where
+pub record IsDetour (job : JobFields) (part : List Tri) (done : List Move) (from : Pt3) (visit : Visit) (moves : List Move) : Type 0 where
   pub away : visit.at ≢ from
   pub barred : ¬ MayFeed job part done from visit
   pub round : moves ≡ detour job from visit.at
 
 -- after the moves done so far these link the place to the visit
-abbrev pub IsLink : Job → List Tri → List Move → Pt3 → Visit → List Move → Type 0
+abbrev pub IsLink : JobFields → List Tri → List Move → Pt3 → Visit → List Move → Type 0
 IsLink job part done from visit moves = IsStay from visit moves ⊎ (IsStraight job part done from visit moves ⊎ IsDetour job part done from visit moves)
 
 -- the way home: up and across
-abbrev pub way_home : Job → Pt3 → List Move
+abbrev pub way_home : JobFields → Pt3 → List Move
 way_home job from = climb job from ++ cross job from (home job)
 
 -- the list gets the moves of a link after the moves done so far
-pub record AddsLink (job : Job) (part : List Tri) (done : List Move) (from : Pt3) (visit : Visit) (old new : List Move) : Type 0 where
+pub record AddsLink (job : JobFields) (part : List Tri) (done : List Move) (from : Pt3) (visit : Visit) (old new : List Move) : Type 0 where
   pub moves : List Move
   pub link : IsLink job part done from visit moves
   pub joined : new ≡ old ++ moves
 
 -- where feeds are tested, the rows are the stock as the moves done so far leave it
-abbrev pub FollowStock : Job → List Move → List RowState → Type 0
+abbrev pub FollowStock : JobFields → List Move → List RowState → Type 0
 FollowStock job done rows = IsTested job Feed → IsStock job done rows

@@ -13,14 +13,14 @@ use Rattle.mill_dexel.specs.Tops.{ClearsColumns, top_after}
 use Rattle.mill_gouge.specs.Gouges.{ToolPassesPart}
 use Rattle.mill_job.specs.Columns.{home}
 use Rattle.mill_job.specs.Jobs.{IsJob, tool_of}
-use Rattle.mill_job.specs.declared.job.Job.{Job}
+use Rattle.mill_job.specs.declared.fields.JobFields.{JobFields}
 use Rattle.mill_sweep.specs.Halving.{PassesPoint}
 use Rattle.mill_links.specs.Links.{IsLink, way_home}
 use Rattle.mill_links.specs.Tours.{IsTour, last_place}
 use Rattle.mill_links.specs.declared.visit.Visit.{Visit}
 
 -- after the moves done so far, this one is safe
-pub record IsSafeMove (job : Job) (part : List Tri) (done : List Move) (m : Move) : Type 0 where
+pub record IsSafeMove (job : JobFields) (part : List Tri) (done : List Move) (m : Move) : Type 0 where
   pub ranged : MoveInUnitRange job.unit m
   pub floor_from : job.floor ≤ℤ m.from.z
   pub floor_to : job.floor ≤ℤ m.to.z
@@ -29,7 +29,7 @@ pub record IsSafeMove (job : Job) (part : List Tri) (done : List Move) (m : Move
   pub depth : m.kind ≡ Feed → ClearsColumns job done m
 
 -- so are these moves, each after those before it
-abbrev pub AreSafe : Job → List Tri → List Move → List Move → Type 0
+abbrev pub AreSafe : JobFields → List Tri → List Move → List Move → Type 0
 AreSafe job part done [] = Unit {0}
 AreSafe job part done (m ∷ ms) = IsSafeMove job part done m × AreSafe job part (done ++ m ∷ []) ms
 
@@ -39,7 +39,7 @@ Connect from [] to = to ≡ from
 Connect from (m ∷ ms) to = (m.from ≡ from) × Connect m.to ms to
 
 -- the tool may stand here: the place is in the unit's range, from the floor to the top of the stock, and no part point is strictly inside the cutter or its holder
-pub record IsFreePlace (job : Job) (part : List Tri) (p : Pt3) : Type 0 where
+pub record IsFreePlace (job : JobFields) (part : List Tri) (p : Pt3) : Type 0 where
   pub ranged : IsInUnitRange job.unit p
   pub floor : job.floor ≤ℤ p.z
   pub top : p.z ≤ℤ job.top
@@ -52,29 +52,29 @@ pub record IsEndOf (moves : List Move) (p : Pt3) : Type 0 where
   pub here : move.to ≡ p
 
 -- after these moves the cutter may be here: at the clear height, or at a free place where one of them ends
-pub record IsReached (job : Job) (part : List Tri) (done : List Move) (p : Pt3) : Type 0 where
+pub record IsReached (job : JobFields) (part : List Tri) (done : List Move) (p : Pt3) : Type 0 where
   pub ranged : IsInUnitRange job.unit p
   pub floor : job.floor ≤ℤ p.z
   pub low : p.z ≤ℤ job.clear
   pub place : (job.clear ≤ℤ p.z) ⊎ (IsFreePlace job part p × IsEndOf done p)
 
 -- the moves go from one place to another safely, and the cutter is there then
-pub record GoSafely (job : Job) (part : List Tri) (done : List Move) (from : Pt3) (moves : List Move) (to : Pt3) : Type 0 where
+pub record GoSafely (job : JobFields) (part : List Tri) (done : List Move) (from : Pt3) (moves : List Move) (to : Pt3) : Type 0 where
   pub safe : AreSafe job part done moves
   pub connect : Connect from moves to
   pub reached : IsReached job part (done ++ moves) to
 
 -- a link to a free place goes there safely
 abbrev pub LinkIsSafe : Type 0
-LinkIsSafe = (job : Job) (part : List Tri) (done : List Move) (from : Pt3) (visit : Visit) (moves : List Move) → IsJob job → IsUnder part job.top
+LinkIsSafe = (job : JobFields) (part : List Tri) (done : List Move) (from : Pt3) (visit : Visit) (moves : List Move) → IsJob job → IsUnder part job.top
     → IsReached job part done from → IsFreePlace job part visit.at → IsLink job part done from visit moves → GoSafely job part done from moves visit.at
 
 -- so does a tour of free places
 abbrev pub TourIsSafe : Type 0
-TourIsSafe = (job : Job) (part : List Tri) (done : List Move) (from : Pt3) (visits : List Visit) (moves : List Move) → IsJob job → IsUnder part job.top
+TourIsSafe = (job : JobFields) (part : List Tri) (done : List Move) (from : Pt3) (visits : List Visit) (moves : List Move) → IsJob job → IsUnder part job.top
     → IsReached job part done from → All (λ v. IsFreePlace job part v.at) visits → IsTour job part done from visits moves → GoSafely job part done from moves (last_place from visits)
 
 -- and the way home
 abbrev pub WayHomeIsSafe : Type 0
-WayHomeIsSafe = (job : Job) (part : List Tri) (done : List Move) (from : Pt3) → IsJob job → IsUnder part job.top
+WayHomeIsSafe = (job : JobFields) (part : List Tri) (done : List Move) (from : Pt3) → IsJob job → IsUnder part job.top
     → IsReached job part done from → GoSafely job part done from (way_home job from) (home job)

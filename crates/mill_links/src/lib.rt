@@ -1,6 +1,6 @@
 //! The moves that link the place where the cutter is to the next that it comes to.
 //!
-//! It stands on mill_job, on `mill_gouge` and on `mill_dexel`, whose rows are the stock that the
+//! It stands on `mill_job`, on `mill_gouge` and on `mill_dexel`, whose rows are the stock that the
 //! moves so far leave. `link`, `link_known` and `home` promise exactly the moves of `specs/Links`
 //! and `specs/Tours`; by `specs/Safety` each of these passes the tests of floor, part and holder,
 //! and, with the cutter, of the stock.

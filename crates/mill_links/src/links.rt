@@ -2,19 +2,16 @@ ghost use Rattle.std.specs.Prelude.{◌≡◌, List, [], ◌∷◌, ◌++◌, �
 ghost use Rattle.mill_base.specs.Ranges.{IsInRange, MovesInRange};
 ghost use Rattle.mill_base.specs.declared.motion.Move.{Move as OneMove};
 ghost use Rattle.mill_base.specs.declared.points.Tri.{Tri};
-ghost use Rattle.mill_cells.specs.Sorted.{sorted_of};
 ghost use Rattle.mill_dexel.specs.Rows.{IsRowOf};
-ghost use Rattle.mill_job.specs.Jobs.{IsJob};
 ghost use Rattle.mill_links.specs.Links.{AddsLink, FollowStock, IsClear, IsNearBy, SaysClear, at_height as at_height_of, climb as climb_of, cross as cross_of, descend as descend_of, detour as detour_of, distance, feed_to as feed_of, peck_count as peck_count_of, plunge as plunge_of, rapid_to as rapid_of, way_home};
 ghost use Rattle.mill_links.specs.inner.Linking.{GoesOn, SaysStraight, link_moves};
 
 use crate::visit::Visit;
 use mill_base::{Kind, Move, Pt3, WantOfMemory};
-use mill_cells::Cells;
 use mill_dexel::{Row, cut_rows, keeps_depth};
 use mill_gouge::tool_clears;
 use mill_job::Job;
-use mill_part::Part;
+use mill_part::SortedPart;
 
 /// Adds the moves that link the place `from`, where the cutter is, to the visit.
 ///
@@ -23,8 +20,7 @@ use mill_part::Part;
 /// passes each triangle of the part, and no column of the stock is cut deeper than the job allows.
 /// Whether the holder passes the stock isn't looked at. To each other visit the cutter goes round: up to
 /// the clear height, across, down to the top of the stock, and then by feeds straight down to the visit,
-/// none of which is longer than the job's greatest depth of cut. The cells are those of the part's
-/// triangles.
+/// none of which is longer than the job's greatest depth of cut.
 ///
 /// Where the job limits the depth of cut, the rows are to be those of the stock as the moves so far
 /// leave it, and then they are as the added moves leave it. Where it doesn't, they aren't looked at,
@@ -37,47 +33,42 @@ use mill_part::Part;
 /// Only want of memory. The moves and the rows are as they were then.
 pub fn link(
     job: &Job,
-    part: &Part,
-    cells: &Cells,
+    part: &SortedPart,
     rows: &mut [Row],
     from: Pt3,
     to: Visit,
     out: &mut Vec<Move>,
 ) -> Result<(), WantOfMemory>
-    requires job_ok { IsJob job.now }
-    requires cells_ok { cells.now ≡ sorted_of part.now }
-    requires rows_ok { All (IsRowOf job.now) rows.old }
+    requires rows_ok { All (IsRowOf job.now.fields) rows.old }
     requires from_ok { IsInRange from }
     requires to_ok { IsInRange to.at }
-    ensures ok { (done : List OneMove) → FollowStock job.now done rows.old
-        → OnOk result (AddsLink job.now part.now done from to out.old.items out.new.items) }
-    ensures stock { (done added : List OneMove) → FollowStock job.now done rows.old → out.new.items ≡ out.old.items ++ added
-        → OnOk result (FollowStock job.now (done ++ added) rows.new) }
-    ensures untested { job.now.max_cut ≡ pos 0 → rows.new ≡ rows.old }
-    ensures rows_ok { All (IsRowOf job.now) rows.new }
+    ensures ok { (done : List OneMove) → FollowStock job.now.fields done rows.old
+        → OnOk result (AddsLink job.now.fields part.now done from to out.old.items out.new.items) }
+    ensures stock { (done added : List OneMove) → FollowStock job.now.fields done rows.old → out.new.items ≡ out.old.items ++ added
+        → OnOk result (FollowStock job.now.fields (done ++ added) rows.new) }
+    ensures untested { job.now.fields.max_cut ≡ pos 0 → rows.new ≡ rows.old }
+    ensures rows_ok { All (IsRowOf job.now.fields) rows.new }
     ensures err { OnErr result (out.new.items ≡ out.old.items) }
     ensures err_rows { OnErr result (rows.new ≡ rows.old) }
 {
-    let clear = goes_clear(job, part, cells, from, to);
+    let clear = goes_clear(job, part, from, to);
     link_known(job, rows, from, to, clear, out)
 }
 
 /// Whether nothing but the stock may stand in the way of the link from the place `from`, where the
 /// cutter is, to the visit: it is no move, or the straight feed is short enough, and on it the cutter, and
-/// its holder if it has one, passes the part. The cells are those of the part's triangles.
+/// its holder if it has one, passes the part.
 ///
 /// Coordinates are in the job's units, of at most 524,287 in magnitude.
-pub fn goes_clear(job: &Job, part: &Part, cells: &Cells, from: Pt3, to: Visit) -> bool
-    requires job_ok { IsJob job.now }
-    requires cells_ok { cells.now ≡ sorted_of part.now }
+pub fn goes_clear(job: &Job, part: &SortedPart, from: Pt3, to: Visit) -> bool
     requires from_ok { IsInRange from }
     requires to_ok { IsInRange to.at }
-    ensures { SaysClear job.now part.now from to result }
+    ensures { SaysClear job.now.fields part.now from to result }
 {
     if to.at == from {
         return true;
     }
-    is_clear(job, part, cells, from, to)
+    is_clear(job, part, from, to)
 }
 
 /// Adds the moves that `link` adds, where it is known what `goes_clear` says of the link: for each part
@@ -95,16 +86,15 @@ pub fn link_known(
     clear: bool,
     out: &mut Vec<Move>,
 ) -> Result<(), WantOfMemory>
-    requires job_ok { IsJob job.now }
-    requires rows_ok { All (IsRowOf job.now) rows.old }
+    requires rows_ok { All (IsRowOf job.now.fields) rows.old }
     requires from_ok { IsInRange from }
     requires to_ok { IsInRange to.at }
-    ensures ok { (part : List Tri) (done : List OneMove) → SaysClear job.now part from to clear → FollowStock job.now done rows.old
-        → OnOk result (AddsLink job.now part done from to out.old.items out.new.items) }
-    ensures stock { (done added : List OneMove) → FollowStock job.now done rows.old → out.new.items ≡ out.old.items ++ added
-        → OnOk result (FollowStock job.now (done ++ added) rows.new) }
-    ensures untested { job.now.max_cut ≡ pos 0 → rows.new ≡ rows.old }
-    ensures rows_ok { All (IsRowOf job.now) rows.new }
+    ensures ok { (part : List Tri) (done : List OneMove) → SaysClear job.now.fields part from to clear → FollowStock job.now.fields done rows.old
+        → OnOk result (AddsLink job.now.fields part done from to out.old.items out.new.items) }
+    ensures stock { (done added : List OneMove) → FollowStock job.now.fields done rows.old → out.new.items ≡ out.old.items ++ added
+        → OnOk result (FollowStock job.now.fields (done ++ added) rows.new) }
+    ensures untested { job.now.fields.max_cut ≡ pos 0 → rows.new ≡ rows.old }
+    ensures rows_ok { All (IsRowOf job.now.fields) rows.new }
     ensures err { OnErr result (out.new.items ≡ out.old.items) }
     ensures err_rows { OnErr result (rows.new ≡ rows.old) }
 {
@@ -121,8 +111,7 @@ pub fn link_known(
 ///
 /// Only want of memory. The moves are as they were then.
 pub fn home(job: &Job, from: Pt3, out: &mut Vec<Move>) -> Result<(), WantOfMemory>
-    requires { IsJob job.now }
-    ensures ok { OnOk result (out.new.items ≡ out.old.items ++ way_home job.now from) }
+    ensures ok { OnOk result (out.new.items ≡ out.old.items ++ way_home job.now.fields from) }
     ensures err { OnErr result (out.new.items ≡ out.old.items) }
 {
     let first = out.len();
@@ -131,18 +120,16 @@ pub fn home(job: &Job, from: Pt3, out: &mut Vec<Move>) -> Result<(), WantOfMemor
 }
 
 /// Whether the straight feed to the visit is clear.
-fn is_clear(job: &Job, part: &Part, cells: &Cells, from: Pt3, to: Visit) -> bool
-    requires job_ok { IsJob job.now }
-    requires cells_ok { cells.now ≡ sorted_of part.now }
+fn is_clear(job: &Job, part: &SortedPart, from: Pt3, to: Visit) -> bool
     requires from_ok { IsInRange from }
     requires to_ok { IsInRange to.at }
-    ensures yes { IsTrue result → IsClear job.now part.now from to }
-    ensures no { result ≡ false → ¬ IsClear job.now part.now from to }
+    ensures yes { IsTrue result → IsClear job.now.fields part.now from to }
+    ensures no { result ≡ false → ¬ IsClear job.now.fields part.now from to }
 {
     if !is_near_by(from, to) {
         return false;
     }
-    tool_clears(&job.tool(), part, cells, &feed_to(from, to.at))
+    tool_clears(&job.tool(), part, &feed_to(from, to.at))
 }
 
 /// Whether the visit is at most twice its step away from the place, in x and in y.
@@ -167,17 +154,16 @@ fn is_within(a: i32, b: i32, step: i32) -> bool
 /// Whether the link needs no way round, where `clear` says what `goes_clear` says of it, and the rows are
 /// the stock's.
 fn goes_straight(job: &Job, rows: &[Row], from: Pt3, to: Visit, clear: bool) -> bool
-    requires job_ok { IsJob job.now }
-    requires rows_ok { All (IsRowOf job.now) rows.now }
+    requires rows_ok { All (IsRowOf job.now.fields) rows.now }
     requires from_ok { IsInRange from }
     requires to_ok { IsInRange to.at }
-    ensures { (part : List Tri) (done : List OneMove) → SaysClear job.now part from to clear → FollowStock job.now done rows.now
-        → SaysStraight job.now part done from to result }
+    ensures { (part : List Tri) (done : List OneMove) → SaysClear job.now.fields part from to clear → FollowStock job.now.fields done rows.now
+        → SaysStraight job.now.fields part done from to result }
 {
     if !clear {
         return false;
     }
-    if job.max_cut == 0 || to.at == from {
+    if job.fields.max_cut == 0 || to.at == from {
         return true;
     }
     keeps_depth(job, rows, &feed_to(from, to.at))
@@ -186,14 +172,13 @@ fn goes_straight(job: &Job, rows: &[Row], from: Pt3, to: Visit, clear: bool) -> 
 /// Lowers the rows of the stock to what the cutter leaves after these moves, where the job limits the
 /// depth of cut.
 fn cut(job: &Job, rows: &mut [Row], moves: &[Move])
-    requires job_ok { IsJob job.now }
-    requires rows_ok { All (IsRowOf job.now) rows.old }
+    requires rows_ok { All (IsRowOf job.now.fields) rows.old }
     requires moves_ok { MovesInRange moves.now }
-    ensures stock { (done : List OneMove) → FollowStock job.now done rows.old → FollowStock job.now (done ++ moves.now) rows.new }
-    ensures untested { job.now.max_cut ≡ pos 0 → rows.new ≡ rows.old }
-    ensures rows_ok { All (IsRowOf job.now) rows.new }
+    ensures stock { (done : List OneMove) → FollowStock job.now.fields done rows.old → FollowStock job.now.fields (done ++ moves.now) rows.new }
+    ensures untested { job.now.fields.max_cut ≡ pos 0 → rows.new ≡ rows.old }
+    ensures rows_ok { All (IsRowOf job.now.fields) rows.new }
 {
-    if job.max_cut == 0 {
+    if job.fields.max_cut == 0 {
         return;
     }
     for step in moves {
@@ -209,11 +194,10 @@ fn add_link(
     straight: bool,
     out: &mut Vec<Move>,
 ) -> Result<(), WantOfMemory>
-    requires job_ok { IsJob job.now }
-    requires to_ok { IsInRange to.at }
+    requires { IsInRange to.at }
     ensures ok { OnOk
         result
-        (out.new.items ≡ out.old.items ++ link_moves job.now from to straight) }
+        (out.new.items ≡ out.old.items ++ link_moves job.now.fields from to straight) }
     ensures err { OnErr result (out.new.items ≡ out.old.items) }
 {
     if to.at == from {
@@ -245,8 +229,7 @@ fn all_or_none(
 
 /// Adds the first moves of the way home, and where the memory suffices all of them.
 fn go_home(job: &Job, from: Pt3, out: &mut Vec<Move>) -> Result<(), WantOfMemory>
-    requires { IsJob job.now }
-    ensures ok { OnOk result (out.new.items ≡ out.old.items ++ way_home job.now from) }
+    ensures ok { OnOk result (out.new.items ≡ out.old.items ++ way_home job.now.fields from) }
     ensures on { GoesOn out.old.items out.new.items }
 {
     climb(job, from, out)?;
@@ -256,9 +239,8 @@ fn go_home(job: &Job, from: Pt3, out: &mut Vec<Move>) -> Result<(), WantOfMemory
 /// Adds the first moves of the way round over everything to a place, and where the memory suffices all
 /// of them: up, across, down to the top of the stock, and from there to the place.
 fn go_round(job: &Job, from: Pt3, at: Pt3, out: &mut Vec<Move>) -> Result<(), WantOfMemory>
-    requires job_ok { IsJob job.now }
-    requires at_ok { IsInRange at }
-    ensures ok { OnOk result (out.new.items ≡ out.old.items ++ detour_of job.now from at) }
+    requires { IsInRange at }
+    ensures ok { OnOk result (out.new.items ≡ out.old.items ++ detour_of job.now.fields from at) }
     ensures on { GoesOn out.old.items out.new.items }
 {
     climb(job, from, out)?;
@@ -269,22 +251,22 @@ fn go_round(job: &Job, from: Pt3, at: Pt3, out: &mut Vec<Move>) -> Result<(), Wa
 
 /// Adds the rapid up to the clear height, where the place is under it.
 fn climb(job: &Job, from: Pt3, out: &mut Vec<Move>) -> Result<(), WantOfMemory>
-    ensures ok { OnOk result (out.new.items ≡ out.old.items ++ climb_of job.now from) }
+    ensures ok { OnOk result (out.new.items ≡ out.old.items ++ climb_of job.now.fields from) }
     ensures err { OnErr result (out.new.items ≡ out.old.items) }
 {
-    if from.z >= job.clear {
+    if from.z >= job.fields.clear {
         return Ok(());
     }
-    add(rapid_to(from, at_height(from, job.clear)), out)
+    add(rapid_to(from, at_height(from, job.fields.clear)), out)
 }
 
 /// Adds the rapid across at the clear height, where the places differ in x or y.
 fn cross(job: &Job, from: Pt3, at: Pt3, out: &mut Vec<Move>) -> Result<(), WantOfMemory>
-    ensures ok { OnOk result (out.new.items ≡ out.old.items ++ cross_of job.now from at) }
+    ensures ok { OnOk result (out.new.items ≡ out.old.items ++ cross_of job.now.fields from at) }
     ensures err { OnErr result (out.new.items ≡ out.old.items) }
 {
-    let start = at_height(from, job.clear);
-    let end = at_height(at, job.clear);
+    let start = at_height(from, job.fields.clear);
+    let end = at_height(at, job.fields.clear);
     if start == end {
         return Ok(());
     }
@@ -293,14 +275,17 @@ fn cross(job: &Job, from: Pt3, at: Pt3, out: &mut Vec<Move>) -> Result<(), WantO
 
 /// Adds the rapid down from the clear height to the top of the stock, where that is lower.
 fn descend(job: &Job, at: Pt3, out: &mut Vec<Move>) -> Result<(), WantOfMemory>
-    ensures ok { OnOk result (out.new.items ≡ out.old.items ++ descend_of job.now at) }
+    ensures ok { OnOk result (out.new.items ≡ out.old.items ++ descend_of job.now.fields at) }
     ensures err { OnErr result (out.new.items ≡ out.old.items) }
 {
-    if job.top >= job.clear {
+    if job.fields.top >= job.fields.clear {
         return Ok(());
     }
     add(
-        rapid_to(at_height(at, job.clear), at_height(at, job.top)),
+        rapid_to(
+            at_height(at, job.fields.clear),
+            at_height(at, job.fields.top),
+        ),
         out,
     )
 }
@@ -308,14 +293,13 @@ fn descend(job: &Job, at: Pt3, out: &mut Vec<Move>) -> Result<(), WantOfMemory>
 /// Adds the first feeds of those from the top of the stock straight down to a place, and where the memory
 /// suffices all of them. Each but the last goes down by the job's greatest depth of cut.
 fn plunge(job: &Job, at: Pt3, out: &mut Vec<Move>) -> Result<(), WantOfMemory>
-    requires job_ok { IsJob job.now }
-    requires at_ok { IsInRange at }
-    ensures ok { OnOk result (out.new.items ≡ out.old.items ++ plunge_of job.now at) }
+    requires { IsInRange at }
+    ensures ok { OnOk result (out.new.items ≡ out.old.items ++ plunge_of job.now.fields at) }
     ensures on { GoesOn out.old.items out.new.items }
 {
-    let mut z = job.top;
+    let mut z = job.fields.top;
     for _ in 0..peck_count(job, at) {
-        let low = z - job.max_cut;
+        let low = z - job.fields.max_cut;
         add(feed_to(at_height(at, z), at_height(at, low)), out)?;
         z = low;
     }
@@ -325,15 +309,14 @@ fn plunge(job: &Job, at: Pt3, out: &mut Vec<Move>) -> Result<(), WantOfMemory>
 /// How many feeds down to a place from the top of the stock go down by the job's greatest depth of cut,
 /// and end over the place.
 fn peck_count(job: &Job, at: Pt3) -> u32
-    requires job_ok { IsJob job.now }
-    requires at_ok { IsInRange at }
-    ensures value { result ≡ peck_count_of job.now.max_cut (job.now.top -ℤ at.z) }
-    ensures under { 0 < result → at.z <ℤ job.now.top }
+    requires { IsInRange at }
+    ensures value { result ≡ peck_count_of job.now.fields.max_cut (job.now.fields.top -ℤ at.z) }
+    ensures under { 0 < result → at.z <ℤ job.now.fields.top }
 {
-    if job.max_cut == 0 || at.z >= job.top {
+    if job.fields.max_cut == 0 || at.z >= job.fields.top {
         return 0;
     }
-    (job.top.abs_diff(at.z) - 1) / job.max_cut.unsigned_abs()
+    (job.fields.top.abs_diff(at.z) - 1) / job.fields.max_cut.unsigned_abs()
 }
 
 /// Adds one move.

@@ -15,7 +15,7 @@ use Rattle.mill_ngc.specs.Pieces.{Reading, reading_at, after_lines, fed, at_end,
 use Rattle.mill_block.specs.declared.fault.NgcFault.{NgcFault}
 use Rattle.mill_ngc.proofs.JoinLemmas.{pieces_join}
 use Rattle.mill_ngc.proofs.WholeText.{last_moves, last_fault}
-use Rattle.mill_job.specs.declared.job.Job.{Job}
+use Rattle.mill_job.specs.declared.fields.JobFields.{JobFields}
 use Rattle.mill_job.specs.Columns.{home}
 use Rattle.mill_load.specs.declared.file.File.{File}
 use Rattle.mill_load.specs.declared.load.LoadFault.{LoadFault}
@@ -92,7 +92,7 @@ too_long (Some bytes) now file limit same is h_now =
     (refl, long)
 
 -- it gives no text
-pub no_text : (job : Job) (told : Option (List ℕ)) (file : File) (f : LoadFault) → LoadsNone told file f → LoadsProgram job told file (Err f)
+pub no_text : (job : JobFields) (told : Option (List ℕ)) (file : File) (f : LoadFault) → LoadsNone told file f → LoadsProgram job told file (Err f)
 no_text job told file Memory h = tt
 no_text job told file (ReadFault f) h = h
 no_text job told file (Unfit (TooLong f)) h = h
@@ -103,7 +103,7 @@ no_text job told file (Unfit (ProgramRefused f fault)) h = absurd h
 no_text job told file (Unfit (PartTop height top unit)) h = absurd h
 
 -- the moves of a whole file
-pub file_moves : (job : Job) (start : Pt3) (unit : LengthUnit) (told : Option (List ℕ)) (reader : Reading) (moves all : List Move) (u : Unit {0}) → start ≡ home job → unit ≡ job.unit → TakesFile start unit told reader moves
+pub file_moves : (job : JobFields) (start : Pt3) (unit : LengthUnit) (told : Option (List ℕ)) (reader : Reading) (moves all : List Move) (u : Unit {0}) → start ≡ home job → unit ≡ job.unit → TakesFile start unit told reader moves
     → Ok u ≡ last_answer (at_end (reader, moves)).0 → all ≡ (at_end (reader, moves)).1 → IfSome told (λ text. IsProgramText job text all)
 file_moves job start unit None reader moves all u from of_job f e is = tt
 file_moves job start unit (Some bytes) reader moves all u from of_job f e is =
@@ -111,7 +111,7 @@ file_moves job start unit (Some bytes) reader moves all u from of_job f e is =
     subst (λ (t : List ℕ). IsProgramText job t all) f.whole (record { fits = f.fits; reads = reads })
 
 -- the first fault of a whole file
-pub file_fault : (job : Job) (start : Pt3) (unit : LengthUnit) (told : Option (List ℕ)) (reader : Reading) (moves : List Move) (fault : NgcFault) → start ≡ home job → unit ≡ job.unit → TakesFile start unit told reader moves
+pub file_fault : (job : JobFields) (start : Pt3) (unit : LengthUnit) (told : Option (List ℕ)) (reader : Reading) (moves : List Move) (fault : NgcFault) → start ≡ home job → unit ≡ job.unit → TakesFile start unit told reader moves
     → Err fault ≡ last_answer (at_end (reader, moves)).0 → IfSome told (λ text. IsRefusedProgram job text fault)
 file_fault job start unit None reader moves fault from of_job f e = tt
 file_fault job start unit (Some bytes) reader moves fault from of_job f e =
@@ -121,15 +121,15 @@ file_fault job start unit (Some bytes) reader moves fault from of_job f e =
 -- ---- a text that is held whole
 
 -- the moves of a whole text
-pub text_moves : (job : Job) (start : Pt3) (unit : LengthUnit) (text : List ℕ) (reader : Reading) (moves all : List Move) (u : Unit {0}) → start ≡ home job → unit ≡ job.unit → HasTaken start unit reader moves text
+pub text_moves : (job : JobFields) (start : Pt3) (unit : LengthUnit) (text : List ℕ) (reader : Reading) (moves all : List Move) (u : Unit {0}) → start ≡ home job → unit ≡ job.unit → HasTaken start unit reader moves text
     → Ok u ≡ last_answer (at_end (reader, moves)).0 → all ≡ (at_end (reader, moves)).1 → program_of (home job) job.unit text ≡ Ok all
 text_moves job start unit text reader moves all u from of_job taken e is = rw (← from, ← of_job) (last_moves start unit text (reader, moves) u all taken.all e is)
 
 -- sound moves are moves that the verifier takes
-pub moves_ok : (job : Job) (start : Pt3) (unit : LengthUnit) (moves : List Move) → start ≡ home job → unit ≡ job.unit → AreSound start unit moves → AreMoves job moves
+pub moves_ok : (job : JobFields) (start : Pt3) (unit : LengthUnit) (moves : List Move) → start ≡ home job → unit ≡ job.unit → AreSound start unit moves → AreMoves job moves
 moves_ok job start unit moves from of_job sound = record { in_range = subst (λ (u : LengthUnit). MovesInUnitRange u moves) of_job sound.in_range; follow = subst (λ (p : Pt3). Follow p moves) from sound.follow; few = sound.few }
 
 -- the first fault of a whole text
-pub text_fault : (job : Job) (start : Pt3) (unit : LengthUnit) (text : List ℕ) (reader : Reading) (moves : List Move) (fault : NgcFault) → start ≡ home job → unit ≡ job.unit → HasTaken start unit reader moves text
+pub text_fault : (job : JobFields) (start : Pt3) (unit : LengthUnit) (text : List ℕ) (reader : Reading) (moves : List Move) (fault : NgcFault) → start ≡ home job → unit ≡ job.unit → HasTaken start unit reader moves text
     → Err fault ≡ last_answer (at_end (reader, moves)).0 → program_of (home job) job.unit text ≡ Err fault
 text_fault job start unit text reader moves fault from of_job taken e = rw (← from, ← of_job) (last_fault start unit text (reader, moves) fault taken.all e)

@@ -1,6 +1,6 @@
 -- What was read from the bytes of a file holds of what the store tells of it.
 use Rattle.std.proofs.Common.{◌≡◌, ℕ, List, length, Option, Some, None, Result, Ok, Err, refl, sym, subst, arith}
-use Rattle.std.specs.Prelude.{◌<◌, ◌-◌, ◌^◌, ℤ, IfErr, IfSome}
+use Rattle.std.specs.Prelude.{◌<◌, ℤ, IfErr, IfSome}
 use Rattle.mill_base.specs.declared.points.Tri.{Tri}
 use Rattle.mill_base.specs.Covers.{IsUnder}
 use Rattle.std.specs.Global.{Vec}
@@ -13,6 +13,7 @@ use Rattle.mill_io.specs.declared.pieces.PieceEnd.{PieceEnd}
 use Rattle.mill_io.specs.declared.pieces.PieceEnd.TheVariants.{TooLong as LongPiece}
 use Rattle.mill_io.specs.declared.whole.ReadEnd.{ReadEnd}
 use Rattle.mill_io.specs.declared.whole.ReadEnd.TheVariants.{TooLong as Long}
+use Rattle.mill_job.specs.declared.fields.JobFields.{JobFields}
 use Rattle.mill_job.specs.declared.job.Job.{Job}
 use Rattle.mill_part.specs.declared.part.Part.{Part}
 use Rattle.mill_load.specs.declared.file.File.TheVariants.{Job as JobFile, Part as PartFile, Program as ProgramFile, List as ListFile, StepProgram}
@@ -50,7 +51,7 @@ untold_job items (Err (Unfit (ListRefused fault))) h = h
 untold_job items (Err (Unfit (ProgramRefused file fault))) h = h
 untold_job items (Err (Unfit (PartTop height top unit))) h = h
 
-untold_part : (job : Job) (items : List ℕ) (r : Result Part LoadFault) → LoadsPart job (Some items) r → LoadsPart job None r
+untold_part : (job : JobFields) (items : List ℕ) (r : Result Part LoadFault) → LoadsPart job (Some items) r → LoadsPart job None r
 untold_part job items (Ok part) h = tt
 untold_part job items (Err Memory) h = tt
 untold_part job items (Err (ReadFault JobFile)) h = h
@@ -75,7 +76,7 @@ pub job_told : (told : Option (List ℕ)) (items : List ℕ) (r : Result Job Loa
 job_told None items r same h = untold_job items r h
 job_told (Some text) items r same h = subst (λ (t : List ℕ). LoadsJob (Some t) r) same h
 
-pub part_told : (job : Job) (told : Option (List ℕ)) (items : List ℕ) (r : Result Part LoadFault) → IfSome told (λ text. items ≡ text) → LoadsPart job (Some items) r
+pub part_told : (job : JobFields) (told : Option (List ℕ)) (items : List ℕ) (r : Result Part LoadFault) → IfSome told (λ text. items ≡ text) → LoadsPart job (Some items) r
     → LoadsPart job told r
 part_told job None items r same h = untold_part job items r h
 part_told job (Some text) items r same h = subst (λ (t : List ℕ). LoadsPart job (Some t) r) same h
@@ -94,7 +95,7 @@ no_job_text told (Unfit (ProgramRefused file fault)) h = absurd h
 no_job_text told (Unfit (PartTop height top unit)) h = absurd h
 
 -- the part's file
-pub no_part_text : (job : Job) (told : Option (List ℕ)) (f : LoadFault) → (let r : Result (Vec ℕ) LoadFault = Err f in ReadsFile told PartFile r) → LoadsPart job told (Err f)
+pub no_part_text : (job : JobFields) (told : Option (List ℕ)) (f : LoadFault) → (let r : Result (Vec ℕ) LoadFault = Err f in ReadsFile told PartFile r) → LoadsPart job told (Err f)
 no_part_text job told Memory h = tt
 no_part_text job told (ReadFault file) h = subst (λ (x : File). LoadsPart job told (Err (ReadFault x))) (sym h) tt
 no_part_text job told (Unfit (TooLong file)) h = subst (λ (x : File). LoadsPart job told (Err (Unfit (TooLong x)))) (sym h.0) h.1
@@ -105,7 +106,7 @@ no_part_text job told (Unfit (ProgramRefused file fault)) h = absurd h
 no_part_text job told (Unfit (PartTop height top unit)) h = absurd h
 
 -- where there is no part, none is put to a job
-pub part_under : (job : Job) (told : Option (List ℕ)) (f : LoadFault) → LoadsPart job told (Err f) → LoadsUnder job told (Err f)
+pub part_under : (job : JobFields) (told : Option (List ℕ)) (f : LoadFault) → LoadsPart job told (Err f) → LoadsUnder job told (Err f)
 part_under job told Memory h = h
 part_under job told (ReadFault file) h = h
 part_under job told (Unfit (TooLong file)) h = h
@@ -137,11 +138,11 @@ job_fault texts (Unfit (ProgramRefused file fault)) h = absurd h
 job_fault texts (Unfit (PartTop height top unit)) h = absurd h
 
 -- the job was read, and this is what the part's file came to
-pub under_loads : (texts : SetupTexts) (job : Job) (r : Result Setup LoadFault) → ReadsJob texts job → LoadsUnder job texts.part r → LoadsSetup texts r
+pub under_loads : (texts : SetupTexts) (job : JobFields) (r : Result Setup LoadFault) → ReadsJob texts job → LoadsUnder job texts.part r → LoadsSetup texts r
 under_loads texts job (Ok s) read h = record {
-  job_is = subst (λ (j : Job). ReadsJob texts j) (sym h.0) read;
-  part_is = subst (λ (j : Job). IfSome texts.part (λ text. IsPartText j text s.part)) (sym h.0) h.1;
-  under = subst (λ (j : Job). IsUnder s.part j.top) (sym h.0) h.2;
+  job_is = subst (λ (j : JobFields). ReadsJob texts j) (sym h.0) read;
+  part_is = subst (λ (j : JobFields). IfSome texts.part (λ text. IsPartText j text s.part)) (sym h.0) h.1;
+  under = subst (λ (j : JobFields). IsUnder s.part j.top) (sym h.0) h.2;
 }
 under_loads texts job (Err Memory) read h = tt
 under_loads texts job (Err (ReadFault JobFile)) read h = absurd h
@@ -187,7 +188,7 @@ job_fault_with W texts (Unfit (ProgramRefused file fault)) h = absurd h
 job_fault_with W texts (Unfit (PartTop height top unit)) h = absurd h
 
 -- job and words were read, and there was no part
-pub part_fault_with : (ReadsWords : Type 0) (texts : SetupTexts) (job : Job) (f : LoadFault) → ReadsWords → ReadsJob texts job → LoadsUnder job texts.part (Err f) → HasFault ReadsWords texts f
+pub part_fault_with : (ReadsWords : Type 0) (texts : SetupTexts) (job : JobFields) (f : LoadFault) → ReadsWords → ReadsJob texts job → LoadsUnder job texts.part (Err f) → HasFault ReadsWords texts f
 part_fault_with W texts job Memory w read h = tt
 part_fault_with W texts job (ReadFault JobFile) w read h = absurd h
 part_fault_with W texts job (ReadFault PartFile) w read h = w
@@ -208,11 +209,11 @@ part_fault_with W texts job (Unfit (PartTop height top unit)) w read h = (w, und
 -- ---- job and part together
 
 -- the part is too high
-pub high_joined : (job : Job) (part : List Tri) (height : ℤ) → IsLow job part (Some height) → JoinsPart job part (Err (Unfit (PartTop height job.top job.unit)))
+pub high_joined : (job : JobFields) (part : List Tri) (height : ℤ) → IsLow job part (Some height) → JoinsPart job part (Err (Unfit (PartTop height job.top job.unit)))
 high_joined job part height high = (high.0, refl, refl, high.1)
 
 -- the part that was read is put to the job
-pub joined_under : (job : Job) (told : Option (List ℕ)) (part : List Tri) (r : Result Setup LoadFault) → IfSome told (λ text. IsPartText job text part) → JoinsPart job part r
+pub joined_under : (job : JobFields) (told : Option (List ℕ)) (part : List Tri) (r : Result Setup LoadFault) → IfSome told (λ text. IsPartText job text part) → JoinsPart job part r
     → LoadsUnder job told r
 joined_under job told part (Ok s) is h = (h.0, subst (λ (p : List Tri). IfSome told (λ text. IsPartText job text p)) (sym h.1) is, subst (λ (p : List Tri). IsUnder p job.top) (sym h.1) h.2)
 joined_under job told part (Err Memory) is h = absurd h
@@ -226,10 +227,6 @@ joined_under job told part (Err (Unfit (PartTop height top unit))) is h =
     record { part = part; part_is = is; greatest = h.0; limit = h.1; unit_is = h.2; over = h.3 }
 
 -- ---- counts
-
--- a count that can still rise, and rose, is greater
-pub rises : (before now : ℕ) → before < 2 ^ 64 - 1 → Rose before now → before < now
-rises before now room rose = omega (room, rose, arith)
 
 -- a file that is too long is longer than the limit
 pub whole_long : (told : Option (List ℕ)) (limit : ℕ) (r : Result (AnyVec ℕ Global) ReadEnd) → r ≡ Err Long → IsWhole told limit r → IfSome told (λ bytes. limit < length bytes)

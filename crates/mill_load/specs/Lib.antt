@@ -1,9 +1,5 @@
 pub mod Setup
 pub mod Programs
 pub mod Places
-pub mod Faults
-pub mod Statuses
-pub mod Printed
-pub mod Prints
 pub mod Loads
 pub mod inner

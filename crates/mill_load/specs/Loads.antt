@@ -13,9 +13,9 @@ use Rattle.mill_io.specs.Readings.{AreHeld, Reading, LastFails}
 use Rattle.mill_io.specs.Views.{StoreView, ReadsOnly}
 use Rattle.mill_part.specs.Tops.{IsTop}
 use Rattle.mill_part.specs.declared.part.Part.{Part}
+use Rattle.mill_job.specs.declared.fields.JobFields.{JobFields}
 use Rattle.mill_job.specs.declared.job.Job.{Job}
 use Rattle.mill_job.specs.Columns.{home}
-use Rattle.mill_job.specs.Jobs.{IsJob}
 use Rattle.mill_load.specs.declared.file.File.{File}
 use Rattle.mill_load.specs.declared.file.File.TheVariants.{Job as JobFile, Part as PartFile}
 use Rattle.mill_load.specs.declared.load.LoadFault.{LoadFault}
@@ -37,7 +37,7 @@ ReadsFile told file (Err (Unfit _)) = ⊥
 
 -- the job of a file, or why there is none
 abbrev pub LoadsJob : Option (List ℕ) → Result Job LoadFault → Type 0
-LoadsJob told (Ok job) = IfSome told (λ text. IsJobText text job)
+LoadsJob told (Ok job) = IfSome told (λ text. IsJobText text job.fields)
 LoadsJob told (Err Memory) = Unit {0}
 LoadsJob told (Err (ReadFault JobFile)) = Unit {0}
 LoadsJob told (Err (Unfit (TooLong JobFile))) = IfSome told IsTooLongJob
@@ -45,7 +45,7 @@ LoadsJob told (Err (Unfit (JobRefused fault))) = IfSome told (λ text. IsRefused
 LoadsJob told (Err _) = ⊥
 
 -- the part of a file, or why there is none
-abbrev pub LoadsPart : Job → Option (List ℕ) → Result Part LoadFault → Type 0
+abbrev pub LoadsPart : JobFields → Option (List ℕ) → Result Part LoadFault → Type 0
 LoadsPart job told (Ok part) = IfSome told (λ text. IsPartText job text part)
 LoadsPart job told (Err Memory) = Unit {0}
 LoadsPart job told (Err (ReadFault PartFile)) = Unit {0}
@@ -54,7 +54,7 @@ LoadsPart job told (Err (Unfit (PartRefused fault))) = IfSome told (λ text. IsR
 LoadsPart job told (Err _) = ⊥
 
 -- the moves of a file, or why there are none
-abbrev pub LoadsProgram : Job → Option (List ℕ) → File → Result (Vec Move) LoadFault → Type 0
+abbrev pub LoadsProgram : JobFields → Option (List ℕ) → File → Result (Vec Move) LoadFault → Type 0
 LoadsProgram job told file (Ok moves) = IfSome told (λ text. IsProgramText job text moves.items)
 LoadsProgram job told file (Err Memory) = Unit {0}
 LoadsProgram job told file (Err (ReadFault f)) = f ≡ file
@@ -65,13 +65,13 @@ LoadsProgram job told file (Err _) = ⊥
 -- ---- job and part
 
 -- this job with this part; or the part's greatest height, which is over the job's top
-abbrev pub JoinsPart : Job → List Tri → Result Setup LoadFault → Type 0
-JoinsPart job part (Ok s) = (s.job ≡ job) × (s.part ≡ part) × IsUnder part job.top
+abbrev pub JoinsPart : JobFields → List Tri → Result Setup LoadFault → Type 0
+JoinsPart job part (Ok s) = (s.job.fields ≡ job) × (s.part ≡ part) × IsUnder part job.top
 JoinsPart job part (Err (Unfit (PartTop height top unit))) = IsTop part height × (top ≡ job.top) × (unit ≡ job.unit) × (top <ℤ height)
 JoinsPart job part (Err _) = ⊥
 
 -- where the part's file is told, it reads as a part whose greatest height is over the job's top
-pub record HasHighPart (job : Job) (told : Option (List ℕ)) (height top : ℤ) (unit : LengthUnit) : Type 0 where
+pub record HasHighPart (job : JobFields) (told : Option (List ℕ)) (height top : ℤ) (unit : LengthUnit) : Type 0 where
   pub part : List Tri
   pub part_is : IfSome told (λ text. IsPartText job text part)
   pub greatest : IsTop part height
@@ -80,14 +80,14 @@ pub record HasHighPart (job : Job) (told : Option (List ℕ)) (height top : ℤ)
   pub over : top <ℤ height
 
 -- this job with a part, or why there is none, by what is told of the part's file
-abbrev pub LoadsUnder : Job → Option (List ℕ) → Result Setup LoadFault → Type 0
-LoadsUnder job told (Ok s) = (s.job ≡ job) × IfSome told (λ text. IsPartText job text s.part) × IsUnder s.part job.top
+abbrev pub LoadsUnder : JobFields → Option (List ℕ) → Result Setup LoadFault → Type 0
+LoadsUnder job told (Ok s) = (s.job.fields ≡ job) × IfSome told (λ text. IsPartText job text s.part) × IsUnder s.part job.top
 LoadsUnder job told (Err (Unfit (PartTop height top unit))) = HasHighPart job told height top unit
 LoadsUnder job told (Err fault) = LoadsPart job told (Err fault)
 
 -- job and part, or why there are none
 abbrev pub LoadsSetup : SetupTexts → Result Setup LoadFault → Type 0
-LoadsSetup texts (Ok s) = ReadsSetup texts s.job s.part
+LoadsSetup texts (Ok s) = ReadsSetup texts s.job.fields s.part
 LoadsSetup texts (Err Memory) = Unit {0}
 LoadsSetup texts (Err (ReadFault file)) = IsReadBefore texts file
 LoadsSetup texts (Err (Unfit fault)) = IsUnfit texts fault
@@ -116,13 +116,12 @@ NamesFault names log (Unfit fault) = Unit {0}
 
 -- ---- what was read
 
--- a job, and a part that isn't over its top
-pub record IsSetup (s : Setup) : Type 0 where
-  pub job_ok : IsJob s.job
-  pub under : IsUnder s.part s.job.top
+-- the part isn't over the job's top
+abbrev pub IsSetup : Setup → Type 0
+IsSetup s = IsUnder s.part s.job.fields.top
 
 -- moves within the ranges that the verifier asks for
-pub record AreMoves (job : Job) (moves : List Move) : Type 0 where
+pub record AreMoves (job : JobFields) (moves : List Move) : Type 0 where
   pub in_range : MovesInUnitRange job.unit moves
   pub follow : Follow (home job) moves
   pub few : length moves ≤ MAX_MOVES

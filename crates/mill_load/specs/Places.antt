@@ -4,7 +4,7 @@ use Rattle.mill_base.specs.declared.unit.Unit.{Unit}
 use Rattle.mill_decimal.specs.Decimals.{read_as}
 use Rattle.mill_decimal.specs.declared.fault.DecFault.{DecFault}
 use Rattle.mill_decimal.specs.declared.snap.Snap.TheVariants.{Exact}
-use Rattle.mill_job.specs.declared.job.Place.{Place}
+use Rattle.mill_job.specs.declared.fields.Place.{Place}
 use Rattle.mill_load.specs.declared.place.Coordinate.{Coordinate}
 use Rattle.mill_load.specs.declared.place.Coordinate.TheVariants.{X, Y, Z}
 use Rattle.mill_load.specs.declared.place.WordFault.{WordFault}

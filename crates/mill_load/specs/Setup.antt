@@ -7,7 +7,7 @@ use Rattle.mill_base.specs.Covers.{IsUnder}
 use Rattle.mill_part.specs.Tops.{IsTop}
 use Rattle.mill_stl.specs.Parts.{part_of}
 use Rattle.mill_stl.specs.declared.fault.StlFault.{StlFault}
-use Rattle.mill_job.specs.declared.job.Job.{Job}
+use Rattle.mill_job.specs.declared.fields.JobFields.{JobFields}
 use Rattle.mill_job.specs.declared.fault.JobFault.{JobFault}
 use Rattle.mill_job.specs.Documents.{IsJobOf}
 use Rattle.mill_load.specs.declared.file.File.{File}
@@ -54,7 +54,7 @@ most_bytes (StepProgram k) = MAX_FILE_BYTES
 -- ---- the job
 
 -- a text within the limit that reads as this job
-pub record IsJobText (text : List ℕ) (job : Job) : Type 0 where
+pub record IsJobText (text : List ℕ) (job : JobFields) : Type 0 where
   pub fits : FitsJobFile text
   pub reads : IsJobOf text (Ok job)
 
@@ -64,28 +64,28 @@ pub record IsRefusedJob (text : List ℕ) (fault : JobFault) : Type 0 where
   pub refused : IsJobOf text (Err fault)
 
 -- where the job's file is told, it reads as this job
-abbrev pub ReadsJob : SetupTexts → Job → Type 0
+abbrev pub ReadsJob : SetupTexts → JobFields → Type 0
 ReadsJob texts job = IfSome texts.job (λ text. IsJobText text job)
 
 -- ---- the part
 
 -- a text within the limit that reads, in the job's unit and under its snap, as these triangles
-pub record IsPartText (job : Job) (text : List ℕ) (part : List Tri) : Type 0 where
+pub record IsPartText (job : JobFields) (text : List ℕ) (part : List Tri) : Type 0 where
   pub fits : Fits text
   pub rounded : ℕ
   pub reads : part_of job.snap job.unit text ≡ Ok (record { tris = part; rounded = rounded })
 
 -- a text within the limit that is refused in that unit and under that snap, with its first fault
-pub record IsRefusedPart (job : Job) (text : List ℕ) (fault : StlFault) : Type 0 where
+pub record IsRefusedPart (job : JobFields) (text : List ℕ) (fault : StlFault) : Type 0 where
   pub fits : Fits text
   pub refused : part_of job.snap job.unit text ≡ Err fault
 
 -- where the part's file is told, it reads, for the job, as these triangles
-abbrev pub ReadsPart : SetupTexts → Job → List Tri → Type 0
+abbrev pub ReadsPart : SetupTexts → JobFields → List Tri → Type 0
 ReadsPart texts job part = IfSome texts.part (λ text. IsPartText job text part)
 
 -- each of the two files, where it is told, reads as this job and as this part, and the part isn't over the job's top
-pub record ReadsSetup (texts : SetupTexts) (job : Job) (part : List Tri) : Type 0 where
+pub record ReadsSetup (texts : SetupTexts) (job : JobFields) (part : List Tri) : Type 0 where
   pub job_is : ReadsJob texts job
   pub part_is : ReadsPart texts job part
   pub under : IsUnder part job.top
@@ -94,19 +94,19 @@ pub record ReadsSetup (texts : SetupTexts) (job : Job) (part : List Tri) : Type 
 
 -- the job is read; where the part's file is told, it is too long
 pub record LongPart (texts : SetupTexts) : Type 0 where
-  pub job : Job
+  pub job : JobFields
   pub job_is : ReadsJob texts job
   pub long : IfSome texts.part IsTooLong
 
 -- the job is read; where the part's file is told, it is refused
 pub record RefusesPart (texts : SetupTexts) (fault : StlFault) : Type 0 where
-  pub job : Job
+  pub job : JobFields
   pub job_is : ReadsJob texts job
   pub refused : IfSome texts.part (λ text. IsRefusedPart job text fault)
 
 -- job and part are read, and the part's greatest height is over the job's top; both are in the job's unit
 pub record HighPart (texts : SetupTexts) (height top : ℤ) (unit : LengthUnit) : Type 0 where
-  pub job : Job
+  pub job : JobFields
   pub part : List Tri
   pub job_is : ReadsJob texts job
   pub part_is : ReadsPart texts job part
@@ -127,7 +127,7 @@ IsUnfit texts _ = ⊥
 -- all that is read and checked before the job's or the part's file holds
 abbrev pub IsReadBefore : SetupTexts → File → Type 0
 IsReadBefore texts JobFile = Unit {0}
-IsReadBefore texts PartFile = (job : Job) × ReadsJob texts job
+IsReadBefore texts PartFile = (job : JobFields) × ReadsJob texts job
 IsReadBefore texts _ = ⊥
 
 -- ---- where a command reads words behind the job

@@ -1,25 +1,20 @@
-//! The files of a command, and what keeps it from them.
+//! The files of a command: its job, its part and its programs, read from a store.
 //!
-//! It stands on the store and the sink of `mill_io`, on the readers `mill_job`, `mill_stl` and
-//! `mill_ngc`, and on `mill_line`. It promises that what is read of a file is what its text means,
-//! or the first fault, with all that was read before; that reading changes nothing in the store;
-//! and which line and status tell of a fault. What it says of a text is right by whatever the files
-//! hold, if they hold what the reads gave: so it is by what the store tells of them. Definitions:
-//! `specs/Setup`, `specs/Programs`, `specs/Places`, `specs/Loads` of reading, `specs/Faults`,
-//! `specs/Statuses`, `specs/Prints` of telling.
+//! It stands on the store of `mill_io` and on the readers `mill_job`, `mill_stl` and `mill_ngc`. It
+//! promises that what is read of a file is what its text means, or the first fault, with all that was
+//! read before; and that reading changes nothing in the store. What it says of a text is right by
+//! whatever the files hold, if they hold what the reads gave: so it is by what the store tells of them.
+//! It also reads the words of a command that say where, in the job's unit.
+//! Definitions: `specs/Setup` of job and part, `specs/Programs`, `specs/Places`, and `specs/Loads` of
+//! what reading comes to.
 #![tactic(auto)]
 
-mod faults;
 mod file;
 mod limits;
 mod load;
 mod place;
-mod print;
 mod program;
-mod status;
-mod telling;
 
-pub use faults::{line_of_fault, line_of_word_fault, status_of_fault};
 pub use file::File;
 pub use limits::MAX_JOB_BYTES;
 pub use load::{
@@ -27,7 +22,4 @@ pub use load::{
     setup_from,
 };
 pub use place::{Coordinate, WordFault, read_height, read_place};
-pub use print::{line_of_column, line_of_nodes};
 pub use program::{load_program, moves_from, read_moves};
-pub use status::Status;
-pub use telling::{tell, tell_fault, tell_made, tell_memory};

@@ -1,7 +1,6 @@
 //! Reading the job and the part of a command, and the bytes of any of its files.
 ghost use Rattle.std.specs.Prelude.{◌≡◌, ◌≤◌, ℕ, List, length, IfErr, IfOk, Option, Some};
 ghost use Rattle.mill_io.specs.Readings.{AreHeld};
-ghost use Rattle.mill_job.specs.Jobs.{IsJob};
 ghost use Rattle.mill_load.specs.Loads.{ReadsFile, LoadsJob, LoadsPart, LoadsUnder, LoadsSetup, JoinsPart, NamesFault, OnlyLoads, CountsFault, IsSetup};
 ghost use Rattle.mill_load.specs.inner.Steps.{IsLow};
 ghost use Rattle.mill_load.specs.Setup.{setup_texts, Fits, FitsJobFile, most_bytes};
@@ -98,10 +97,9 @@ pub fn load_under<S: Shelf>(
     job: Job,
     name: &str,
 ) -> Result<Setup, LoadFault>
-    requires { IsJob job }
     ensures told { (contents : List ℕ → Option (List ℕ)) →
         AreHeld contents (S.shows shelf.old).log (S.shows shelf.new).log →
-        LoadsUnder job (contents name.now) result }
+        LoadsUnder job.fields (contents name.now) result }
     ensures ready { IfOk result IsSetup }
     ensures failed { (names : AnyFile → List ℕ) → names PartFile ≡ name.now →
         IfErr result (NamesFault names (S.shows shelf.new).log) }
@@ -115,16 +113,15 @@ pub fn load_under<S: Shelf>(
 
 /// The job with its part, if that isn't over the job's top; else `PartTop`.
 pub fn setup_from(job: Job, part: Part) -> Result<Setup, LoadFault>
-    requires { IsJob job }
-    ensures told { JoinsPart job part result }
+    ensures told { JoinsPart job.fields part result }
     ensures ready { IfOk result IsSetup }
     ensures cause { CountsFault 0 0 result }
 {
     if let Some(height) = height_over(&job, &part) {
         return Err(LoadFault::Unfit(Unfit::PartTop {
             height,
-            top: job.top,
-            unit: job.unit,
+            top: job.fields.top,
+            unit: job.fields.unit,
         }));
     }
     Ok(Setup { job, part })
@@ -132,10 +129,10 @@ pub fn setup_from(job: Job, part: Part) -> Result<Setup, LoadFault>
 
 /// The part's greatest height, where it is over the job's top.
 fn height_over(job: &Job, part: &Part) -> Option<i32>
-    ensures { IsLow job.now part.now result }
+    ensures { IsLow job.now.fields part.now result }
 {
     match part.top() {
-        Some(height) if height > job.top => Some(height),
+        Some(height) if height > job.fields.top => Some(height),
         _ => None,
     }
 }
@@ -145,7 +142,6 @@ pub fn load_job<S: Shelf>(alloc: Global, shelf: &mut S, name: &str) -> Result<Jo
     ensures told { (contents : List ℕ → Option (List ℕ)) →
         AreHeld contents (S.shows shelf.old).log (S.shows shelf.new).log →
         LoadsJob (contents name.now) result }
-    ensures in_range { IfOk result IsJob }
     ensures failed { (names : AnyFile → List ℕ) → names JobFile ≡ name.now →
         IfErr result (NamesFault names (S.shows shelf.new).log) }
     ensures store { OnlyLoads (S.shows shelf.old) (S.shows shelf.new) result }
@@ -164,7 +160,7 @@ fn load_part<S: Shelf>(
 ) -> Result<Part, LoadFault>
     ensures told { (contents : List ℕ → Option (List ℕ)) →
         AreHeld contents (S.shows shelf.old).log (S.shows shelf.new).log →
-        LoadsPart job.now (contents name.now) result }
+        LoadsPart job.now.fields (contents name.now) result }
     ensures failed { (names : AnyFile → List ℕ) → names PartFile ≡ name.now →
         IfErr result (NamesFault names (S.shows shelf.new).log) }
     ensures store { OnlyLoads (S.shows shelf.old) (S.shows shelf.new) result }
@@ -213,7 +209,6 @@ fn most_bytes_of(file: File) -> u64
 pub fn job_from(alloc: Global, text: &[u8]) -> Result<Job, LoadFault>
     requires { FitsJobFile text.now }
     ensures told { LoadsJob (Some text.now) result }
-    ensures in_range { IfOk result IsJob }
     ensures cause { CountsFault 0 0 result }
 {
     match read_job(alloc, text) {
@@ -227,10 +222,10 @@ pub fn job_from(alloc: Global, text: &[u8]) -> Result<Job, LoadFault>
 /// or why it is refused.
 pub fn part_from(alloc: Global, text: &[u8], job: &Job) -> Result<Part, LoadFault>
     requires { Fits text.now }
-    ensures told { LoadsPart job.now (Some text.now) result }
+    ensures told { LoadsPart job.now.fields (Some text.now) result }
     ensures cause { CountsFault 0 0 result }
 {
-    match read_stl(alloc, text, job.snap, job.unit) {
+    match read_stl(alloc, text, job.fields.snap, job.fields.unit) {
         Ok(read) => Ok(Part::new(read.tris)),
         Err(StlFault::WantOfMemory) => Err(LoadFault::Memory),
         Err(fault) => Err(LoadFault::Unfit(Unfit::PartRefused(fault))),

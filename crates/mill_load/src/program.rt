@@ -5,7 +5,6 @@ ghost use Rattle.mill_base.specs.declared.points.Pt3.{Pt3 as Point};
 ghost use Rattle.mill_base.specs.declared.unit.Unit.{Unit as LengthUnit};
 ghost use Rattle.mill_io.specs.Readings.{AreHeld};
 ghost use Rattle.mill_job.specs.Columns.{home};
-ghost use Rattle.mill_job.specs.Jobs.{IsJob};
 ghost use Rattle.mill_ngc.specs.Pieces.{lines_read};
 ghost use Rattle.mill_ngc.specs.Programs.{program_of};
 ghost use Rattle.mill_block.specs.declared.fault.NgcFault.TheVariants.{WantOfMemory as NoMemory};
@@ -38,11 +37,10 @@ pub fn load_program<S: Shelf>(
     job: &Job,
     file: File,
 ) -> Result<Vec<Move>, LoadFault>
-    requires { IsJob job.now }
     ensures told { (contents : List ℕ → Option (List ℕ)) →
         AreHeld contents (S.shows shelf.old).log (S.shows shelf.new).log →
-        LoadsProgram job.now (contents name.now) file result }
-    ensures ready { IfOk result (λ moves. AreMoves job.now moves.items) }
+        LoadsProgram job.now.fields (contents name.now) file result }
+    ensures ready { IfOk result (λ moves. AreMoves job.now.fields moves.items) }
     ensures failed { (names : AnyFile → List ℕ) → names file ≡ name.now →
         IfErr result (NamesFault names (S.shows shelf.new).log) }
     ensures store { OnlyLoads (S.shows shelf.old) (S.shows shelf.new) result }
@@ -54,7 +52,7 @@ pub fn load_program<S: Shelf>(
         name,
         file,
         job.home(),
-        job.unit,
+        job.fields.unit,
         &mut buf,
         &mut moves,
     ) {
@@ -149,10 +147,9 @@ fn take_piece(reader: &mut Reader, piece: &[u8], moves: &mut Vec<Move>) -> Resul
 /// The moves of a program's text within the limit of a file, from the job's home and in the job's unit,
 /// or why there are none. A fault is told as that of `file`.
 pub fn moves_from(alloc: Global, text: &[u8], job: &Job, file: File) -> Result<Vec<Move>, LoadFault>
-    requires job_ok { IsJob job.now }
-    requires fits { Fits text.now }
-    ensures told { LoadsProgram job.now (Some text.now) file result }
-    ensures ready { IfOk result (λ moves. AreMoves job.now moves.items) }
+    requires { Fits text.now }
+    ensures told { LoadsProgram job.now.fields (Some text.now) file result }
+    ensures ready { IfOk result (λ moves. AreMoves job.now.fields moves.items) }
     ensures cause { CountsFault 0 0 result }
 {
     match read_moves(alloc, text, job) {
@@ -165,14 +162,13 @@ pub fn moves_from(alloc: Global, text: &[u8], job: &Job, file: File) -> Result<V
 /// The moves of a program's text of any length, from the job's home and in the job's unit, or its first
 /// fault.
 pub fn read_moves(alloc: Global, text: &[u8], job: &Job) -> Result<Vec<Move>, NgcFault>
-    requires { IsJob job.now }
-    ensures told { IfOk result (λ moves. program_of (home job.now) job.now.unit text.now ≡ Ok moves.items) }
+    ensures told { IfOk result (λ moves. program_of (home job.now.fields) job.now.fields.unit text.now ≡ Ok moves.items) }
     ensures fault { IfErr result (λ fault. fault ≢ NoMemory →
-        program_of (home job.now) job.now.unit text.now ≡ Err fault) }
-    ensures ready { IfOk result (λ moves. AreMoves job.now moves.items) }
+        program_of (home job.now.fields) job.now.fields.unit text.now ≡ Err fault) }
+    ensures ready { IfOk result (λ moves. AreMoves job.now.fields moves.items) }
 {
     let mut moves = Vec::new(alloc);
-    let mut reader = Reader::new(job.home(), job.unit);
+    let mut reader = Reader::new(job.home(), job.fields.unit);
     let Ok(()) = take_piece(&mut reader, text, &mut moves) else {
         return Err(NgcFault::WantOfMemory);
     };

@@ -130,9 +130,6 @@ pieces_join s text more =
 abbrev pub ending : Reading × List Move → Result (List Move) NgcFault
 ending s = told (at_end s).1 (last_answer (at_end s).0)
 
-ending-failed : (f : NgcFault) (moves : List Move) → ending (Failed f, moves) ≡ Err f
-ending-failed f moves = refl
-
 ending-ended : (p : Progress) (so_far : List ℕ) (moves : List Move) → p.ended ≡ true → ending (Going p so_far, moves) ≡ Ok moves
 ending-ended p so_far moves over = ap (λ (s : Reading × List Move). told s.1 (last_answer s.0)) (after_whole-ended p so_far so_far moves over) ∙ rw over refl
 

@@ -6,3 +6,10 @@ mod ShownLemmas
 pub mod JoinLemmas
 pub mod WholeText
 pub mod MoveLines
+mod TextLemmas
+mod Cutting
+mod Numerals
+mod Moves
+mod LineEnds
+mod Ends
+mod WalkLemmas

@@ -8,11 +8,19 @@
 #![tactic(auto)]
 
 mod laws;
+mod line;
+mod line_end;
 mod lines;
+mod place;
+mod program;
 mod reader;
 mod text_reader;
 mod unfinished;
+mod walk;
 
 pub use laws::{pieces_join, pieces_read_program};
 pub use mill_block::NgcFault;
+pub use place::{LineSpan, line_words};
+pub use program::write_program;
 pub use reader::Reader;
+pub use walk::places;

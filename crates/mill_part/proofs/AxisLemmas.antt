@@ -5,7 +5,7 @@ use Rattle.std.proofs.lemmas.Int.{ints, by_lt_z}
 use Rattle.mill_base.specs.declared.points.Tri.{Tri}
 use Rattle.mill_part.specs.inner.Columns.{weigh, Reaches, StandsOver, IsGreatest, IsUpright, turn_of}
 use Rattle.mill_part.specs.inner.Lines.{LineOver}
-use Rattle.mill_part.specs.declared.line.Place.{Place}
+use Rattle.mill_part.specs.declared.line.LineCorner.{LineCorner}
 use Rattle.mill_part.proofs.ColumnCerts as cert
 use Rattle.mill_part.proofs.FaceLemmas.{both_ways, to_offsets, from_offsets}
 use Rattle.mill_part.proofs.Greatest.{greatest_same}
@@ -13,7 +13,7 @@ use lib.IntN.{ℤ, pos, ◌+ℤ◌, ◌-ℤ◌, ◌*ℤ◌}
 use lib.Signed.{◌<ℤ◌}
 
 -- the places are the corners, at these offsets from the column
-pub record AreAlong (a b c : Place) (tri : Tri) (p q r : ℤ) : Type 0 where
+pub record AreAlong (a b c : LineCorner) (tri : Tri) (p q r : ℤ) : Type 0 where
   pub a_at : a.at ≡ p
   pub b_at : b.at ≡ q
   pub c_at : c.at ≡ r
@@ -21,7 +21,7 @@ pub record AreAlong (a b c : Place) (tri : Tri) (p q r : ℤ) : Type 0 where
   pub b_z : b.z ≡ tri.b.z
   pub c_z : c.z ≡ tri.c.z
 
-line_of : (a b c : Place) (tri : Tri) (p q r u v w h : ℤ) → AreAlong a b c tri p q r → (pos 0) <ℤ ((u +ℤ v) +ℤ w) → weigh u v w p q r ≡ pos 0 → Reaches tri u v w h
+line_of : (a b c : LineCorner) (tri : Tri) (p q r u v w h : ℤ) → AreAlong a b c tri p q r → (pos 0) <ℤ ((u +ℤ v) +ℤ w) → weigh u v w p q r ≡ pos 0 → Reaches tri u v w h
     → LineOver a b c h
 line_of a b c tri p q r u v w h along some on reaches = record {
   u = u;
@@ -35,15 +35,15 @@ line_of a b c tri p q r u v w h along some on reaches = record {
   high = rw (along.a_z, along.b_z, along.c_z) reaches.high;
 }
 
-on_line : (a b c : Place) (tri : Tri) (p q r h : ℤ) → AreAlong a b c tri p q r → (l : LineOver a b c h) → weigh l.u l.v l.w p q r ≡ pos 0
+on_line : (a b c : LineCorner) (tri : Tri) (p q r h : ℤ) → AreAlong a b c tri p q r → (l : LineOver a b c h) → weigh l.u l.v l.w p q r ≡ pos 0
 on_line a b c tri p q r h along l = rw (along.a_at, along.b_at, along.c_at) at l.on
 
-reaches_line : (a b c : Place) (tri : Tri) (p q r h : ℤ) → AreAlong a b c tri p q r → (l : LineOver a b c h) → Reaches tri l.u l.v l.w h
+reaches_line : (a b c : LineCorner) (tri : Tri) (p q r h : ℤ) → AreAlong a b c tri p q r → (l : LineOver a b c h) → Reaches tri l.u l.v l.w h
 reaches_line a b c tri p q r h along l =
     record { u_ok = l.u_ok; v_ok = l.v_ok; w_ok = l.w_ok; high = rw (along.a_z, along.b_z, along.c_z) at l.high }
 
 -- seen along y, where all corners have the column's x
-pub upright_greatest : (tri : Tri) (x y : ℤ) (a b c : Place) (o : Option ℤ) → IsUpright tri x → AreAlong a b c tri (tri.a.y -ℤ y) (tri.b.y -ℤ y) (tri.c.y -ℤ y)
+pub upright_greatest : (tri : Tri) (x y : ℤ) (a b c : LineCorner) (o : Option ℤ) → IsUpright tri x → AreAlong a b c tri (tri.a.y -ℤ y) (tri.b.y -ℤ y) (tri.c.y -ℤ y)
     → IsGreatest (LineOver a b c) o → IsGreatest (StandsOver tri x y) o
 upright_greatest tri x y a b c o upright along g = greatest_same (LineOver a b c) (StandsOver tri x y) o g stands lies
   where
@@ -87,7 +87,7 @@ other_axis a d b e c f p q r level on off =
     zero_under a s under on = both_ways a (pos 0) (cert.zero_by_under a s under on) (cert.zero_by_under_least a s under on)
 
 -- seen along x, where some corner hasn't the column's x
-pub aslant_greatest : (tri : Tri) (x y : ℤ) (a b c : Place) (o : Option ℤ) → ¬ IsUpright tri x
+pub aslant_greatest : (tri : Tri) (x y : ℤ) (a b c : LineCorner) (o : Option ℤ) → ¬ IsUpright tri x
     → turn_of tri.b tri.c x y ≡ pos 0 → turn_of tri.c tri.a x y ≡ pos 0 → turn_of tri.a tri.b x y ≡ pos 0
     → AreAlong a b c tri (tri.a.x -ℤ x) (tri.b.x -ℤ x) (tri.c.x -ℤ x) → IsGreatest (LineOver a b c) o → IsGreatest (StandsOver tri x y) o
 aslant_greatest tri x y a b c o slanted bc ca ab along g = greatest_same (LineOver a b c) (StandsOver tri x y) o g stands lies

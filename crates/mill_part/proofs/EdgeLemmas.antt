@@ -5,14 +5,14 @@ use Rattle.std.specs.Int.{int_max}
 use Rattle.std.proofs.lemmas.Int.{ints, clamps}
 use Rattle.mill_part.specs.inner.Columns.{IsFloor, IsGreatest}
 use Rattle.mill_part.specs.inner.Lines.{EdgeOver}
-use Rattle.mill_part.specs.declared.line.Place.{Place}
+use Rattle.mill_part.specs.declared.line.LineCorner.{LineCorner}
 use Rattle.mill_part.proofs.LineCerts as cert
 use Rattle.mill_part.proofs.FaceLemmas.{both_ways}
 use Rattle.mill_part.proofs.Greatest.{greatest_same}
 use lib.IntN.{ℤ, pos, neg_ℤ, ◌+ℤ◌, ◌-ℤ◌, ◌*ℤ◌}
 use lib.Signed.{◌<ℤ◌, ◌≤ℤ◌}
 
-pub turned : (p q : Place) (h : ℤ) → EdgeOver p q h → EdgeOver q p h
+pub turned : (p q : LineCorner) (h : ℤ) → EdgeOver p q h → EdgeOver q p h
 turned p q h e = record {
   u = e.v;
   v = e.u;
@@ -23,11 +23,11 @@ turned p q h e = record {
   high = cert.turned_high p.z q.z e.u e.v h e.high;
 }
 
-pub turned_greatest : (p q : Place) (o : Option ℤ) → IsGreatest (EdgeOver q p) o → IsGreatest (EdgeOver p q) o
+pub turned_greatest : (p q : LineCorner) (o : Option ℤ) → IsGreatest (EdgeOver q p) o → IsGreatest (EdgeOver p q) o
 turned_greatest p q o g = greatest_same (EdgeOver q p) (EdgeOver p q) o g (turned q p) (turned p q)
 
 -- an end on the column reaches its height, and the ends to its two sides reach their mean
-pub first_over : (p q : Place) (h : ℤ) → p.at ≡ pos 0 → h ≤ℤ p.z → EdgeOver p q h
+pub first_over : (p q : LineCorner) (h : ℤ) → p.at ≡ pos 0 → h ≤ℤ p.z → EdgeOver p q h
 first_over p q h level le = record {
   u = pos 1;
   v = pos 0;
@@ -38,10 +38,10 @@ first_over p q h level le = record {
   high = cert.first_high p.z q.z h le;
 }
 
-pub second_over : (p q : Place) (h : ℤ) → q.at ≡ pos 0 → h ≤ℤ q.z → EdgeOver p q h
+pub second_over : (p q : LineCorner) (h : ℤ) → q.at ≡ pos 0 → h ≤ℤ q.z → EdgeOver p q h
 second_over p q h level le = turned q p h (first_over q p h level le)
 
-pub across_over : (p q : Place) (h : ℤ) → p.at ≤ℤ pos 0 → (pos 0) ≤ℤ q.at → p.at <ℤ q.at → ((q.at -ℤ p.at) *ℤ h) ≤ℤ (q.at *ℤ p.z -ℤ p.at *ℤ q.z) → EdgeOver p q h
+pub across_over : (p q : LineCorner) (h : ℤ) → p.at ≤ℤ pos 0 → (pos 0) ≤ℤ q.at → p.at <ℤ q.at → ((q.at -ℤ p.at) *ℤ h) ≤ℤ (q.at *ℤ p.z -ℤ p.at *ℤ q.z) → EdgeOver p q h
 across_over p q h lo hi apart le = record {
   u = q.at;
   v = neg_ℤ p.at;
@@ -58,14 +58,14 @@ across_over p q h lo hi apart le = record {
     sum_positive : (a b : ℤ) → a <ℤ b → (pos 0) <ℤ (b +ℤ neg_ℤ a)
     sum_positive a b apart = omega (arith, ints)
 
-pub before_none : (p q : Place) (h : ℤ) → (pos 0) <ℤ p.at → p.at ≤ℤ q.at → EdgeOver p q h → ⊥
+pub before_none : (p q : LineCorner) (h : ℤ) → (pos 0) <ℤ p.at → p.at ≤ℤ q.at → EdgeOver p q h → ⊥
 before_none p q h over rising e = cert.both_over p.at q.at e.u e.v e.u_ok e.v_ok e.some over rising e.on
 
-pub after_none : (p q : Place) (h : ℤ) → q.at <ℤ pos 0 → p.at ≤ℤ q.at → EdgeOver p q h → ⊥
+pub after_none : (p q : LineCorner) (h : ℤ) → q.at <ℤ pos 0 → p.at ≤ℤ q.at → EdgeOver p q h → ⊥
 after_none p q h under rising e = cert.both_under p.at q.at e.u e.v e.u_ok e.v_ok e.some under rising e.on
 
 -- where both ends are on the column, the higher one counts
-pub level_greatest : (p q : Place) (m : ℤ) → p.at ≡ pos 0 → q.at ≡ pos 0 → m ≡ int_max p.z q.z → EdgeOver p q m × ((h : ℤ) → EdgeOver p q h → h ≤ℤ m)
+pub level_greatest : (p q : LineCorner) (m : ℤ) → p.at ≡ pos 0 → q.at ≡ pos 0 → m ≡ int_max p.z q.z → EdgeOver p q m × ((h : ℤ) → EdgeOver p q h → h ≤ℤ m)
 level_greatest p q m pl ql e =
     let bounds = max_bounds p.z q.z m e in (
       elim (max_reached p.z q.z m e) [ inl l ↦ first_over p q m pl l | inr r ↦ second_over p q m ql r ],
@@ -79,7 +79,7 @@ level_greatest p q m pl ql e =
     max_reached x y m e = grind (arith, ints)
 
 -- where the column lies between the ends, their rounded mean counts
-pub between_greatest : (p q : Place) (f : ℤ) → p.at ≤ℤ pos 0 → (pos 0) ≤ℤ q.at → p.at <ℤ q.at → IsFloor (q.at *ℤ p.z -ℤ p.at *ℤ q.z) (q.at -ℤ p.at) f
+pub between_greatest : (p q : LineCorner) (f : ℤ) → p.at ≤ℤ pos 0 → (pos 0) ≤ℤ q.at → p.at <ℤ q.at → IsFloor (q.at *ℤ p.z -ℤ p.at *ℤ q.z) (q.at -ℤ p.at) f
     → EdgeOver p q f × ((h : ℤ) → EdgeOver p q h → h ≤ℤ f)
 between_greatest p q f lo hi apart floor = (
   across_over p q f lo hi apart floor.below,

@@ -11,6 +11,5 @@ pub mod LineLemmas
 pub mod NearCerts
 pub mod NearLemmas
 pub mod NearScan
-pub mod Ranges
 pub mod Stored
 pub mod TopLemmas

@@ -44,20 +44,6 @@ first_on a b = ring (a ∷ b ∷ []) (Add (Mul (Num (pos 1)) (Var 0)) (Mul (Num 
 pub first_high : (y z h : ℤ) → h ≤ℤ y → (((pos 1) +ℤ (pos 0)) *ℤ h) ≤ℤ (((pos 1) *ℤ y) +ℤ ((pos 0) *ℤ z))
 first_high y z h le = prove_le_by (y ∷ z ∷ h ∷ []) (Le (Var 2) (Var 0) ∷ []) (Mul (Add (Num (pos 1)) (Num (pos 0))) (Var 2)) (Add (Mul (Num (pos 1)) (Var 0)) (Mul (Num (pos 0)) (Var 1))) (Plus (Hyp 0) (Hyp 1)) 0 (le, tt) refl
 
-pub second_on : (a b : ℤ) → (((pos 0) *ℤ a) +ℤ ((pos 1) *ℤ b)) ≡ b
-second_on a b = ring (a ∷ b ∷ []) (Add (Mul (Num (pos 0)) (Var 0)) (Mul (Num (pos 1)) (Var 1))) (Var 1) refl
-
--- vars y z h; hyp le: h <= z; goal (0+1)*h <= 0*y+1*z
-pub second_high : (y z h : ℤ) → h ≤ℤ z → (((pos 0) +ℤ (pos 1)) *ℤ h) ≤ℤ (((pos 0) *ℤ y) +ℤ ((pos 1) *ℤ z))
-second_high y z h le = prove_le_by (y ∷ z ∷ h ∷ []) (Le (Var 2) (Var 1) ∷ []) (Mul (Add (Num (pos 0)) (Num (pos 1))) (Var 2)) (Add (Mul (Num (pos 0)) (Var 0)) (Mul (Num (pos 1)) (Var 1))) (Plus (Hyp 0) (Hyp 1)) 0 (le, tt) refl
-
-pub back_on : (a b : ℤ) → (((neg_ℤ b) *ℤ a) +ℤ (a *ℤ b)) ≡ (pos 0)
-back_on a b = ring (a ∷ b ∷ []) (Add (Mul (Neg (Var 1)) (Var 0)) (Mul (Var 0) (Var 1))) (Num (pos 0)) refl
-
--- vars a b y z h; hyp below: (a-b)*h <= a*z-b*y; goal ((-b)+a)*h <= (-b)*y+a*z
-pub back_high : (a b y z h : ℤ) → ((a -ℤ b) *ℤ h) ≤ℤ ((a *ℤ z) -ℤ (b *ℤ y)) → (((neg_ℤ b) +ℤ a) *ℤ h) ≤ℤ (((neg_ℤ b) *ℤ y) +ℤ (a *ℤ z))
-back_high a b y z h below = prove_le_by (a ∷ b ∷ y ∷ z ∷ h ∷ []) (Le (Mul (Sub (Var 0) (Var 1)) (Var 4)) (Sub (Mul (Var 0) (Var 3)) (Mul (Var 1) (Var 2))) ∷ []) (Mul (Add (Neg (Var 1)) (Var 0)) (Var 4)) (Add (Mul (Neg (Var 1)) (Var 2)) (Mul (Var 0) (Var 3))) (Plus (Hyp 0) (Hyp 1)) 0 (below, tt) refl
-
 -- vars a b u v; hyp on: u*a+v*b == 0; goal v*b+u*a <= 0
 pub turned_on : (a b u v : ℤ) → ((u *ℤ a) +ℤ (v *ℤ b)) ≡ (pos 0) → ((v *ℤ b) +ℤ (u *ℤ a)) ≤ℤ (pos 0)
 turned_on a b u v on = prove_le_by (a ∷ b ∷ u ∷ v ∷ []) (Eq (Add (Mul (Var 2) (Var 0)) (Mul (Var 3) (Var 1))) (Num (pos 0)) ∷ []) (Add (Mul (Var 3) (Var 1)) (Mul (Var 2) (Var 0))) (Num (pos 0)) (Plus (Hyp 0) (TimesEq 1 (Num (pos 1)))) 0 (on, tt) refl

@@ -7,7 +7,7 @@ use Rattle.std.proofs.lemmas.Int.{ints, by_lt_z}
 use Rattle.mill_base.proofs.Cert.{by_opposite_lt}
 use Rattle.mill_part.specs.inner.Columns.{IsGreatest, weigh}
 use Rattle.mill_part.specs.inner.Lines.{EdgeOver, LineOver}
-use Rattle.mill_part.specs.declared.line.Place.{Place}
+use Rattle.mill_part.specs.declared.line.LineCorner.{LineCorner}
 use Rattle.mill_part.proofs.LineCerts as cert
 use Rattle.mill_part.proofs.ColumnCerts.{mean_under}
 use Rattle.mill_part.proofs.FaceLemmas.{both_ways}
@@ -35,7 +35,7 @@ pub record Misses (p x q y h : ℤ) : Type 0 where
   pub across : p ≤ℤ pos 0 → (pos 0) ≤ℤ q → p <ℤ q → (q *ℤ x -ℤ p *ℤ y) <ℤ ((q -ℤ p) *ℤ h)
   pub back : q ≤ℤ pos 0 → (pos 0) ≤ℤ p → q <ℤ p → (p *ℤ y -ℤ q *ℤ x) <ℤ ((p -ℤ q) *ℤ h)
 
-misses : (p q : Place) (h : ℤ) → ¬ EdgeOver p q h → Misses p.at p.z q.at q.z h
+misses : (p q : LineCorner) (h : ℤ) → ¬ EdgeOver p q h → Misses p.at p.z q.at q.z h
 misses p q h none = record {
   first = λ level. by_opposite_lt p.z h (λ le. none (first_over p q h level le));
   second = λ level. by_opposite_lt q.z h (λ le. none (second_over p q h level le));
@@ -176,7 +176,7 @@ no_stray p x q y r z h s =
         not_under h (mean_under u v w x y z (h -ℤ pos 1) h uo vo wo some (one_under x h hx) (one_under y h hy) (one_under z h hz) high)
 
 -- an edge's points are the triangle's
-edge_of_line : (a b c : Place) (h : ℤ) → EdgeOver a b h → LineOver a b c h
+edge_of_line : (a b c : LineCorner) (h : ℤ) → EdgeOver a b h → LineOver a b c h
 edge_of_line a b c h e = record {
   u = e.u;
   v = e.v;
@@ -192,7 +192,7 @@ edge_of_line a b c h e = record {
     with_none : (u v : ℤ) → (pos 0) <ℤ (u +ℤ v) → (pos 0) <ℤ ((u +ℤ v) +ℤ pos 0)
     with_none u v some = omega (arith, ints)
 
-rotated_line : (a b c : Place) (h : ℤ) → LineOver a b c h → LineOver b c a h
+rotated_line : (a b c : LineCorner) (h : ℤ) → LineOver a b c h → LineOver b c a h
 rotated_line a b c h m = record {
   u = m.v;
   v = m.w;
@@ -205,11 +205,11 @@ rotated_line a b c h m = record {
   high = cert.rotated_high a.z b.z c.z m.u m.v m.w h m.high;
 }
 
-mean_of : (a b c : Place) (h : ℤ) → LineOver a b c h → Weighs a.at a.z b.at b.z c.at c.z h
+mean_of : (a b c : LineCorner) (h : ℤ) → LineOver a b c h → Weighs a.at a.z b.at b.z c.at c.z h
 mean_of a b c h m = record { u = m.u; v = m.v; w = m.w; u_ok = m.u_ok; v_ok = m.v_ok; w_ok = m.w_ok; some = m.some; on = m.on; high = m.high }
 
 -- the greatest height of the three edges is the triangle's
-pub line_greatest : (a b c : Place) (ab bc ca : Option ℤ) → IsGreatest (EdgeOver a b) ab → IsGreatest (EdgeOver b c) bc → IsGreatest (EdgeOver c a) ca
+pub line_greatest : (a b c : LineCorner) (ab bc ca : Option ℤ) → IsGreatest (EdgeOver a b) ab → IsGreatest (EdgeOver b c) bc → IsGreatest (EdgeOver c a) ca
     → IsGreatest (LineOver a b c) (ord_max (option_cmp int_cmp) (ord_max (option_cmp int_cmp) ab bc) ca)
 line_greatest a b c ab bc ca gab gbc gca =
     greatest_by (λ h. (EdgeOver a b h ⊎ EdgeOver b c h) ⊎ EdgeOver c a h) (LineOver a b c) (ord_max (option_cmp int_cmp) (ord_max (option_cmp int_cmp) ab bc) ca)

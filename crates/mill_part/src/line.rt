@@ -10,7 +10,7 @@ use mill_base::{Pt3, Tri};
 /// A corner of a triangle that is seen as a line from above: how far along that line it lies from
 /// the column, and its height.
 #[derive(Clone, Copy)]
-struct Place {
+struct LineCorner {
     at: i64,
     z: i32,
     ghost at_ok: { Within (2 ^ 20) at },
@@ -29,9 +29,9 @@ pub fn line_height(tri: &Tri, x: i32, y: i32) -> Option<i32>
     ensures { IsGreatest (StandsOver tri.now x y) result }
 {
     if is_upright(tri, x) {
-        return Place::edges_height(along_y(&tri.a, y), along_y(&tri.b, y), along_y(&tri.c, y));
+        return LineCorner::edges_height(along_y(&tri.a, y), along_y(&tri.b, y), along_y(&tri.c, y));
     }
-    Place::edges_height(along_x(&tri.a, x), along_x(&tri.b, x), along_x(&tri.c, x))
+    LineCorner::edges_height(along_x(&tri.a, x), along_x(&tri.b, x), along_x(&tri.c, x))
 }
 
 /// Whether the three corners have this x.
@@ -48,35 +48,35 @@ fn is_upright(tri: &Tri, x: i32) -> bool
 }
 
 /// The place of a corner along x, and along y.
-fn along_x(p: &Pt3, x: i32) -> Place
+fn along_x(p: &Pt3, x: i32) -> LineCorner
     requires p_ok { IsInRange p.now }
     requires x_ok { Within MAX_COORDINATE x }
     ensures at { result.at ≡ p.now.x -ℤ x }
     ensures z { result.z ≡ p.now.z }
 {
-    Place {
+    LineCorner {
         at: offset(p.x, x),
         z: p.z,
     }
 }
 
-fn along_y(p: &Pt3, y: i32) -> Place
+fn along_y(p: &Pt3, y: i32) -> LineCorner
     requires p_ok { IsInRange p.now }
     requires y_ok { Within MAX_COORDINATE y }
     ensures at { result.at ≡ p.now.y -ℤ y }
     ensures z { result.z ≡ p.now.z }
 {
-    Place {
+    LineCorner {
         at: offset(p.y, y),
         z: p.z,
     }
 }
 
-impl Place {
+impl LineCorner {
     ghost use Rattle.mill_part.specs.inner.Lines.{EdgeOver, LineOver};
 
     /// The greatest whole height over the column of the edge to `other`.
-    fn edge_height(self, other: Place) -> Option<i32>
+    fn edge_height(self, other: LineCorner) -> Option<i32>
         ensures { IsGreatest (EdgeOver self other) result }
     {
         if self.at > other.at {
@@ -87,7 +87,7 @@ impl Place {
 
     /// The greatest whole height over the column of the edge to `other`, which doesn't lie before this
     /// place.
-    fn rising_height(self, other: Place) -> Option<i32>
+    fn rising_height(self, other: LineCorner) -> Option<i32>
         requires { self.at ≤ℤ other.at }
         ensures { IsGreatest (EdgeOver self other) result }
     {
@@ -105,7 +105,7 @@ impl Place {
 
     /// The greatest whole height over the column of the edge to `other`, where the column lies between
     /// the two places, and these aren't both on it.
-    fn height_between(self, other: Place) -> i32
+    fn height_between(self, other: LineCorner) -> i32
         requires self_ok { self.at ≤ℤ pos 0 }
         requires other_ok { pos 0 ≤ℤ other.at }
         requires apart { self.at <ℤ other.at }
@@ -116,7 +116,7 @@ impl Place {
     }
 
     /// The greatest whole height over the column of a triangle, which is that of its three edges.
-    fn edges_height(a: Place, b: Place, c: Place) -> Option<i32>
+    fn edges_height(a: LineCorner, b: LineCorner, c: LineCorner) -> Option<i32>
         ensures { IsGreatest (LineOver a b c) result }
     {
         let ab = a.edge_height(b);

@@ -3,12 +3,10 @@ ghost use Rattle.mill_base.specs.Covers.{Covered, HasPointOver};
 ghost use Rattle.mill_base.specs.Numbers.{Within};
 ghost use Rattle.mill_base.specs.declared.limits.TheConstants.{MAX_COORDINATE, MAX_RADIUS};
 ghost use Rattle.mill_base.specs.Ranges.{TrisInRange};
-ghost use Rattle.mill_cells.specs.Sorted.{sorted_of};
 ghost use Rattle.mill_part.specs.Parts.{top_of};
 
 use crate::near::{Column, highest};
 use mill_base::{MAX_COORDINATE, Tri};
-use mill_cells::Cells;
 use std::marker::Model;
 
 /// The part to be cut: the triangles of its surface, in the order in which they were given.
@@ -93,39 +91,6 @@ impl Part {
         has_point_over(tris, Column { x, y, band }, height)
     }
 
-    /// Whether the column (x, y) is covered at that height, as `covered` tells, by a look at only those
-    /// triangles whose boxes are near the column and that come up to the height, until one covers it.
-    /// `cells` finds them, and is made of the part's triangles.
-    ///
-    /// It is for many columns: for one alone, making the cells is more work than the looks that they
-    /// save.
-    pub fn covered_near(
-        &self,
-        cells: &Cells,
-        floor: i32,
-        x: i32,
-        y: i32,
-        height: i32,
-        band: i32,
-    ) -> bool
-        requires cells_ok { cells.now ≡ sorted_of self.now }
-        requires floor_ok { Within MAX_COORDINATE floor }
-        requires x_ok { Within MAX_COORDINATE x }
-        requires y_ok { Within MAX_COORDINATE y }
-        requires band_least { pos 0 ≤ℤ band }
-        requires band_most { band ≤ℤ MAX_RADIUS }
-        ensures { IsTrue result ↔ Covered self.now floor band x y height }
-    {
-        let tris = self.tris();
-        if floor >= height {
-            return true;
-        }
-        if height > MAX_COORDINATE as i32 {
-            return false;
-        }
-        has_near_point_over(tris, cells, Column { x, y, band }, height)
-    }
-
     /// The greatest whole height of the column (x, y) that the floor or a point of the part covers,
     /// exactly, in units: a point on the column does, and one nearer to it than `band`.
     ///
@@ -144,32 +109,6 @@ impl Part {
         let mut height = floor;
         for tri in self.tris() {
             height = column.raised(height, tri);
-        }
-        height
-    }
-
-    /// The greatest whole height of the column (x, y) that is covered, as `covered_height` gives it,
-    /// by a look at only those triangles whose boxes are near the column. `cells` finds them, and is
-    /// made of the part's triangles.
-    ///
-    /// It is for many columns: for one alone, making the cells is more work than the looks that they
-    /// save.
-    pub fn covered_height_near(&self, cells: &Cells, floor: i32, x: i32, y: i32, band: i32) -> i32
-        requires cells_ok { cells.now ≡ sorted_of self.now }
-        requires floor_ok { Within MAX_COORDINATE floor }
-        requires x_ok { Within MAX_COORDINATE x }
-        requires y_ok { Within MAX_COORDINATE y }
-        requires band_least { pos 0 ≤ℤ band }
-        requires band_most { band ≤ℤ MAX_RADIUS }
-        ensures exact { (h : ℤ) → Covered self.now floor band x y h ↔ (h ≤ℤ result) }
-        ensures bound { Within MAX_COORDINATE result }
-    {
-        let tris = self.tris();
-        let column = Column { x, y, band };
-        let mut height = floor;
-        let mut near = cells.near_rising(column.area());
-        while let Some(number) = near.next_over(height) {
-            height = column.raised(height, &tris[number as usize]);
         }
         height
     }
@@ -196,28 +135,6 @@ fn has_point_over(tris: &[Tri], column: Column, height: i32) -> bool
 {
     for tri in tris {
         if column.is_covered(tri, height) {
-            return true;
-        }
-    }
-    false
-}
-
-/// Whether a point of the triangles at least as high as `height` covers the column, by a look at those
-/// near the column, which `cells` finds.
-///
-/// A triangle comes up to a height if its top is over the next lower one.
-fn has_near_point_over(tris: &[Tri], cells: &Cells, column: Column, height: i32) -> bool
-    requires in_range { TrisInRange tris.now }
-    requires cells_ok { cells.now ≡ sorted_of tris.now }
-    requires height_ok { Within MAX_COORDINATE height }
-    ensures yes { IsTrue result → HasPointOver tris.now column.band column.x column.y height }
-    ensures no { result ≡ false
-        → ¬ HasPointOver tris.now column.band column.x column.y height }
-{
-    let lower = height - 1;
-    let mut near = cells.near_rising(column.area());
-    while let Some(number) = near.next_over(lower) {
-        if column.is_covered(&tris[number as usize], height) {
             return true;
         }
     }

@@ -3,18 +3,16 @@ ghost use Rattle.mill_base.specs.Points.{highest};
 ghost use Rattle.mill_cells.specs.Boxes.{IsNear};
 ghost use Rattle.mill_cells.specs.Sorted.{top_at, sorted_of};
 
-use crate::tables::{first_word, halves, part_of};
 use mill_base::{Box2, Tri};
 use mill_cells::Cells;
 use mill_part::SortedPart;
+use mill_tables::{first_word, halves, part_of};
 use std::process::Abort;
 use std::test::Fail;
 
 // Two triangles over squares of 10, the second one 100 to the right of the first. Their tops are 5
 // and 8.
-const APART: &str = "\
-0 0 2, 10 0 5, 0 10 -3
-100 0 8, 110 0 0, 100 10 8";
+const APART: &str = "0 0 2, 10 0 5, 0 10 -3; 100 0 8, 110 0 0, 100 10 8";
 
 /// An area by its least x and y, and its greatest ones.
 fn area_of(text: &str) -> Result<Box2, Fail> {
@@ -101,19 +99,14 @@ fn top_near(cells: &Cells, tris: &[Tri], area: Box2, floor: i32) -> i32
 }
 
 /// Looks at the greatest top near an area, over the floor that stands behind it.
-fn look_at_top<R: Abort>(
-    rt: &R,
-    shape: &SortedPart<'_>,
-    text: &str,
-    wanted: &str,
-) -> Result<(), Fail> {
+fn look_at_top<R: Abort>(rt: &R, shape: &SortedPart, text: &str, wanted: &str) -> Result<(), Fail> {
     let (area, floor) = area_over(text)?;
     let top = top_near(shape.cells(), shape.part().tris(), area, floor);
     assert_eq!(rt; top, wanted.parse()?, "{text}");
     Ok(())
 }
 
-fn look<R: Abort>(rt: &R, shape: &SortedPart<'_>, row: &str) -> Result<(), Fail> {
+fn look<R: Abort>(rt: &R, shape: &SortedPart, row: &str) -> Result<(), Fail> {
     let (question, wanted) = halves(row)?;
     let (call, text) = first_word(question)?;
     if call == "top" {
@@ -124,7 +117,7 @@ fn look<R: Abort>(rt: &R, shape: &SortedPart<'_>, row: &str) -> Result<(), Fail>
     Ok(())
 }
 
-fn look_at_each<R: Abort>(rt: &R, shape: &SortedPart<'_>, table: &str) -> Result<(), Fail> {
+fn look_at_each<R: Abort>(rt: &R, shape: &SortedPart, table: &str) -> Result<(), Fail> {
     for row in table.lines() {
         look(rt, shape, row)?;
     }
@@ -135,8 +128,7 @@ fn look_at_each<R: Abort>(rt: &R, shape: &SortedPart<'_>, table: &str) -> Result
 /// the call takes one, and the numbers of those that it gives, of which each comes once, or the greatest
 /// top.
 fn each_row<R: Abort + AllocGlobal>(rt: &R, part: &str, table: &str) -> Result<(), Fail> {
-    let part = part_of(rt.alloc(), part)?;
-    let shape = SortedPart::new(rt.alloc(), &part)?;
+    let shape = part_of(rt.alloc(), part)?;
     look_at_each(rt, &shape, table)
 }
 

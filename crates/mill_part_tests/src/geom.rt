@@ -5,9 +5,9 @@ ghost use Rattle.mill_base.specs.declared.limits.TheConstants.{MAX_WIDE_RADIUS};
 ghost use Rattle.mill_geom.specs.Offsets.{OffsetInRange};
 ghost use Rattle.mill_geom.specs.Widths.{farthest};
 
-use crate::tables::{corners, first_word, halves, number, side_word};
 use mill_base::MAX_WIDE_RADIUS;
-use mill_geom::{Offset, Spot, box_gap, box_side, highest, spot_below, touches_triangle};
+use mill_geom::{Offset, Side, Spot, box_gap, box_side, highest, spot_below, touches_triangle};
+use mill_tables::{corners, first_word, halves, number};
 use std::process::Abort;
 use std::test::Fail;
 
@@ -31,6 +31,14 @@ fn offset(text: &str) -> Result<Offset, Fail>
     let (y, z) = first_word(others)?;
     let (x, y, z) = (coordinate(x)?, coordinate(y)?, coordinate(z)?);
     Ok(Offset { x, y, z })
+}
+
+fn side_word(side: Side) -> &'static str {
+    match side {
+        Side::Less => "less",
+        Side::More => "more",
+        Side::Never => "never",
+    }
 }
 
 /// What `touches_triangle` says of a triangle from each of its corners.

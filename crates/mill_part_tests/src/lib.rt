@@ -10,5 +10,3 @@ mod cells;
 mod geom;
 #[cfg(test)]
 mod part;
-#[cfg(test)]
-mod tables;

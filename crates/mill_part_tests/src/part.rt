@@ -2,10 +2,10 @@ ghost use Rattle.std.specs.Prelude.{◌≤ℤ◌, pos, IfOk};
 ghost use Rattle.mill_base.specs.Numbers.{Within};
 ghost use Rattle.mill_base.specs.declared.limits.TheConstants.{MAX_COORDINATE, MAX_RADIUS};
 
-use crate::tables::{coordinate, first_word, halves, number, part_of, placed};
 use mill_base::MAX_RADIUS;
 use mill_cells::Cells;
 use mill_part::{Part, SortedPart, covered_below};
+use mill_tables::{coordinate, first_word, halves, number, part_of, placed};
 use std::alloc::Global;
 use std::process::Abort;
 use std::test::Fail;
@@ -30,7 +30,7 @@ fn cover(part: &Part, floor: i32, x: i32, y: i32, band: i32, height: i32) -> Cov
 }
 
 /// By those near it.
-fn cover_near(shape: &SortedPart<'_>, floor: i32, x: i32, y: i32, band: i32, height: i32) -> Cover
+fn cover_near(shape: &SortedPart, floor: i32, x: i32, y: i32, band: i32, height: i32) -> Cover
     requires floor_ok { Within MAX_COORDINATE floor }
     requires x_ok { Within MAX_COORDINATE x }
     requires y_ok { Within MAX_COORDINATE y }
@@ -38,11 +38,10 @@ fn cover_near(shape: &SortedPart<'_>, floor: i32, x: i32, y: i32, band: i32, hei
     requires band_most { band ≤ℤ MAX_RADIUS }
     requires height_ok { Within MAX_COORDINATE height }
 {
-    let (part, cells) = (shape.part(), shape.cells());
     (
-        part.covered_height_near(cells, floor, x, y, band),
-        part.covered_near(cells, floor, x, y, height, band),
-        part.covered_near(cells, floor, x, y, height + 1, band),
+        shape.covered_height_near(floor, x, y, band),
+        shape.covered_near(floor, x, y, height, band),
+        shape.covered_near(floor, x, y, height + 1, band),
     )
 }
 
@@ -59,12 +58,7 @@ fn column_of(text: &str) -> Result<(i32, i32, i32), Fail>
 }
 
 /// How a column is covered by all triangles, and by those near it.
-fn covers(
-    shape: &SortedPart<'_>,
-    floor: i32,
-    column: &str,
-    height: i32,
-) -> Result<(Cover, Cover), Fail>
+fn covers(shape: &SortedPart, floor: i32, column: &str, height: i32) -> Result<(Cover, Cover), Fail>
     requires floor_ok { Within MAX_COORDINATE floor }
     requires height_ok { Within MAX_COORDINATE height }
 {
@@ -78,7 +72,7 @@ fn covers(
 /// Looks at the column of a row's text: it's covered up to a height and no higher.
 fn look_at<R: Abort>(
     rt: &R,
-    shape: &SortedPart<'_>,
+    shape: &SortedPart,
     floor: i32,
     column: &str,
     wanted: &str,
@@ -93,12 +87,7 @@ fn look_at<R: Abort>(
     Ok(())
 }
 
-fn look_at_column<R: Abort>(
-    rt: &R,
-    shape: &SortedPart<'_>,
-    floor: i32,
-    row: &str,
-) -> Result<(), Fail>
+fn look_at_column<R: Abort>(rt: &R, shape: &SortedPart, floor: i32, row: &str) -> Result<(), Fail>
     requires { Within MAX_COORDINATE floor }
 {
     let (column, wanted) = halves(row)?;
@@ -107,12 +96,7 @@ fn look_at_column<R: Abort>(
 
 /// Looks at many columns: each row has x, y and the band, and the height up to which that column is
 /// covered.
-fn look_at_each<R: Abort>(
-    rt: &R,
-    shape: &SortedPart<'_>,
-    floor: i32,
-    table: &str,
-) -> Result<(), Fail>
+fn look_at_each<R: Abort>(rt: &R, shape: &SortedPart, floor: i32, table: &str) -> Result<(), Fail>
     requires { Within MAX_COORDINATE floor }
 {
     for row in table.lines() {
@@ -130,8 +114,7 @@ fn each_column<R: Abort + AllocGlobal>(
 ) -> Result<(), Fail>
     requires { Within MAX_COORDINATE floor }
 {
-    let part = part_of(rt.alloc(), part)?;
-    let shape = SortedPart::new(rt.alloc(), &part)?;
+    let shape = part_of(rt.alloc(), part)?;
     look_at_each(rt, &shape, floor, table)
 }
 
@@ -139,8 +122,7 @@ fn each_column<R: Abort + AllocGlobal>(
 fn look_at_triangle<R: Abort + AllocGlobal>(rt: &R, row: &str) -> Result<(), Fail> {
     let (text, wanted) = halves(row)?;
     let (corners, column) = placed(text);
-    let part = part_of(rt.alloc(), corners)?;
-    let shape = SortedPart::new(rt.alloc(), &part)?;
+    let shape = part_of(rt.alloc(), corners)?;
     look_at(rt, &shape, -50, column, wanted, row)
 }
 
@@ -152,9 +134,7 @@ fn each_triangle<R: Abort + AllocGlobal>(rt: &R, table: &str) -> Result<(), Fail
     Ok(())
 }
 
-const PLATE: &str = "\
-0 0 200, 200 0 200, 200 200 200
-0 0 200, 200 200 200, 0 200 200";
+const PLATE: &str = "0 0 200, 200 0 200, 200 200 200; 0 0 200, 200 200 200, 0 200 200";
 
 // Without a band, and within one.
 const PLATE_COLUMNS: &str = "\
@@ -182,14 +162,13 @@ fn covers_columns(rt: HostRuntime) -> Result<(), Fail> {
 
 #[test]
 fn covers_up_to_any_height(rt: HostRuntime) -> Result<(), Fail> {
-    let part = part_of(rt.alloc(), PLATE)?;
-    let shape = SortedPart::new(rt.alloc(), &part)?;
-    let cells = shape.cells();
+    let shape = part_of(rt.alloc(), PLATE)?;
+    let part = shape.part();
     let found = (
         part.covered(0, 100, 100, i32::MIN, 10),
         part.covered(0, 100, 100, i32::MAX, 10),
-        part.covered_near(cells, 0, 100, 100, i32::MIN, 10),
-        part.covered_near(cells, 0, 100, 100, i32::MAX, 10),
+        shape.covered_near(0, 100, 100, i32::MIN, 10),
+        shape.covered_near(0, 100, 100, i32::MAX, 10),
     );
     assert_eq!(rt; found, (true, false, true, false));
     Ok(())
@@ -232,10 +211,10 @@ fn covers_by_one_triangle(rt: HostRuntime) -> Result<(), Fail> {
 // Two plates over squares of 256, and a post at (512, 1000) between them. The cells are of 512, so that
 // the post and a plate's edge lie on their borders.
 const PLATES: &str = "\
-0 0 200, 256 0 200, 256 256 200
-0 0 200, 256 256 200, 0 256 200
-768 0 300, 1024 0 300, 1024 256 300
-768 0 300, 1024 256 300, 768 256 300
+0 0 200, 256 0 200, 256 256 200; \
+0 0 200, 256 256 200, 0 256 200; \
+768 0 300, 1024 0 300, 1024 256 300; \
+768 0 300, 1024 256 300, 768 256 300; \
 512 1000 500, 512 1000 -40, 512 1000 90";
 
 const PLATES_COLUMNS: &str = "\
@@ -256,7 +235,7 @@ const PLATES_COLUMNS: &str = "\
 -524287 524287 10000 => 0";
 
 fn cell_size(alloc: Global, part: &str) -> Result<i32, Fail> {
-    Ok(Cells::size_for(part_of(alloc, part)?.tris()))
+    Ok(Cells::size_for(part_of(alloc, part)?.part().tris()))
 }
 
 #[test]
@@ -268,13 +247,17 @@ fn covers_by_near_triangles(rt: HostRuntime) -> Result<(), Fail> {
 /// The top of a part, and how many triangles it has.
 fn top_of(alloc: Global, part: &str) -> Result<(Option<i32>, usize), Fail> {
     let part = part_of(alloc, part)?;
+    let part = part.part();
     Ok((part.top(), part.tris().len()))
 }
 
 #[test]
 fn has_a_top(rt: HostRuntime) -> Result<(), Fail> {
     let alloc = rt.alloc();
-    let found = (top_of(alloc, "")?, top_of(alloc, "0 0 3, 4 0 9, 0 4 -5")?);
+    let found = (
+        top_of(alloc, "nothing")?,
+        top_of(alloc, "0 0 3, 4 0 9, 0 4 -5")?,
+    );
     assert_eq!(rt; found, ((None, 0), (Some(9), 1)));
     Ok(())
 }

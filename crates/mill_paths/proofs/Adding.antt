@@ -1,5 +1,5 @@
 -- A list to which a loop adds what each item of another gives.
-use Rattle.std.proofs.Common.{◌≡◌, ℕ, ◌+◌, ◌<◌, ◌≤◌, List, [], ◌∷◌, ◌++◌, length, take, drop, get_or, refl, sym, ap, ◌∙◌, subst, append_assoc, append-nil, arith}
+use Rattle.std.proofs.Common.{◌≡◌, ℕ, ◌+◌, ◌<◌, ◌≤◌, List, [], ◌∷◌, ◌++◌, length, take, drop, get_or, refl, sym, ap, ◌∙◌, subst, append_assoc, arith}
 use Rattle.std.specs.List.{flat_map, range_with_len}
 use Rattle.std.proofs.lemmas.Grind.{flat_map-append}
 use Rattle.std.proofs.lemmas.List.{flat_map_more, take_all, take_more, take-append-drop}
@@ -8,10 +8,6 @@ use Rattle.mill_links.specs.declared.visit.Visit.{Visit}
 use Rattle.mill_paths.specs.declared.fault.PathFault.{PathFault}
 use Rattle.mill_paths.specs.Limits.{IsListFault}
 use Rattle.mill_paths.proofs.Changes.{fault_stays}
-
--- at first it is the list that was there
-pub adds_none : {X A : Type 0} (f : X → List A) (xs : List X) (start : List A) → start ≡ start ++ flat_map f (take 0 xs)
-adds_none f xs start = sym (append-nil start)
 
 -- it goes on by what the item of number k gives
 pub adds_more : {X A : Type 0} (f : X → List A) (xs : List X) (d : X) (k : ℕ) (start old new : List A) → k < length xs

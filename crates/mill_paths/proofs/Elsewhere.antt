@@ -13,7 +13,7 @@ use Rattle.mill_base.specs.declared.points.Pt3.{Pt3}
 use Rattle.mill_base.specs.declared.points.Tri.{Tri}
 use Rattle.mill_drop.specs.Paths.{path_places, tip_over}
 use Rattle.mill_drop.proofs.Halving.{GoStraight, later_places, path_goes}
-use Rattle.mill_job.specs.declared.job.Job.{Job}
+use Rattle.mill_job.specs.declared.fields.JobFields.{JobFields}
 use Rattle.mill_links.specs.declared.visit.Visit.{Visit}
 use Rattle.mill_paths.specs.Lattices.{finish_lattice}
 use Rattle.mill_paths.specs.Visits.{IsRowPath, in_turn, point_visit, point_visits, row_visits_from, step_from, visits_after}
@@ -140,7 +140,7 @@ Aside p q = q.x ≢ p.x
 turned_aside : (p q : Pt3) → Aside p q → Aside q p
 turned_aside p q apart same = apart (sym same)
 
-module _ (job : Job) (part : List Tri) (tol : ℤ) where
+module _ (job : JobFields) (part : List Tri) (tol : ℤ) where
   -- those of a path are, also in its turn, and all lie on the row
   path_aside : (y : ℤ) (path : List Pt3) → IsRowPath job part tol y path → Apart Aside path
   path_aside y path is =
@@ -169,7 +169,7 @@ module _ (job : Job) (part : List Tri) (tol : ℤ) where
 abbrev pub Elsewhere : Visit → Visit → Type 0
 Elsewhere v w = w.at ≢ v.at
 
-module _ (job : Job) where
+module _ (job : JobFields) where
   -- what holds of the places of points, whatever their heights, holds of those of the visits there
   at_point : (P : ℤ → ℤ → Type 0) (before p : Pt3) → P p.x p.y → All (λ (v : Visit). P v.at.x v.at.y) (point_visit job before p)
   at_point P before p h = by (int_lt (p.z +ℤ job.lift) job.top)

@@ -4,7 +4,7 @@ use Rattle.std.specs.Global.{Vec}
 use Rattle.std.proofs.Common.{sym, subst}
 use Rattle.mill_base.specs.declared.points.Tri.{Tri}
 use Rattle.mill_job.specs.Jobs.{IsJob}
-use Rattle.mill_job.specs.declared.job.Job.{Job}
+use Rattle.mill_job.specs.declared.fields.JobFields.{JobFields}
 use Rattle.mill_links.specs.declared.visit.Visit.{Visit}
 use Rattle.mill_paths.specs.Limits.{change_count, most_changes}
 use Rattle.mill_paths.specs.Visits.{AreFinishVisits, AreNodeVisits, AreRowVisits, HaveManyFinishVisits, IsVisit}
@@ -12,7 +12,7 @@ use Rattle.mill_paths.specs.declared.fault.PathFault.{PathFault}
 use Rattle.mill_paths.proofs.Many.{few_finish}
 use Rattle.mill_paths.proofs.VisitLemmas.{finish_visits_are_free}
 
-module _ (job : Job) (part : List Tri) where
+module _ (job : JobFields) (part : List Tri) where
   -- what is known of each kind of them is known of them
   pub at_nodes : (list : List Visit) → job.path_tol ≡ None → AreNodeVisits job part list → AreFinishVisits job part list
   at_nodes list none h = subst (λ (t : Option ℤ). MatchOption t (AreNodeVisits job part list) (λ tol. AreRowVisits job part tol list)) (sym none) h

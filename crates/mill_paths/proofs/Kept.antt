@@ -8,23 +8,11 @@ use Rattle.mill_base.specs.Numbers.{Within}
 use Rattle.mill_base.specs.declared.limits.TheConstants.{MAX_COORDINATE}
 use Rattle.mill_base.proofs.Ranges.{within_of_unit}
 use Rattle.mill_job.specs.Jobs.{IsJob, IsLevel}
-use Rattle.mill_job.specs.declared.job.Job.{Job}
+use Rattle.mill_job.specs.declared.fields.JobFields.{JobFields}
 use Rattle.mill_paths.specs.Lattices.{lattice_by}
 
--- a lattice over its area
-pub is_lattice : (job : Job) (step : ℤ) → IsJob job → (pos 1) ≤ℤ step → IsLattice (lattice_by job step)
-is_lattice job step ok least = record {
-  x0_ok = within_of_unit job.unit job.area.x0 ok.x0_ok;
-  x1_ok = within_of_unit job.unit job.area.x1 ok.x1_ok;
-  y0_ok = within_of_unit job.unit job.area.y0 ok.y0_ok;
-  y1_ok = within_of_unit job.unit job.area.y1 ok.y1_ok;
-  x_order = ok.x_order;
-  y_order = ok.y_order;
-  step_ok = least;
-}
-
 -- each of its levels
-pub level_in_range : (job : Job) (k : ℕ) (d : ℤ) → IsJob job → k < length job.levels → Within MAX_COORDINATE (get_or job.levels k d)
+pub level_in_range : (job : JobFields) (k : ℕ) (d : ℤ) → IsJob job → k < length job.levels → Within MAX_COORDINATE (get_or job.levels k d)
 level_in_range job k d ok inside =
     let level : IsLevel job.floor job.top (get_or job.levels k d) = All-get_or (IsLevel job.floor job.top) job.levels k d inside ok.levels_ok.within in
     between job.floor job.top (get_or job.levels k d) (within_of_unit job.unit job.floor ok.floor_ok) (within_of_unit job.unit job.top ok.top_ok) level.over_floor level.under_top

@@ -14,7 +14,7 @@ use Rattle.mill_base.specs.declared.points.Tri.{Tri}
 use Rattle.mill_drop.proofs.Uniqueness.{one_map}
 use Rattle.mill_job.specs.Columns.{home}
 use Rattle.mill_job.specs.Jobs.{tool_of}
-use Rattle.mill_job.specs.declared.job.Job.{Job}
+use Rattle.mill_job.specs.declared.fields.JobFields.{JobFields}
 use Rattle.mill_level.specs.Waterlines.{Outline}
 use Rattle.mill_links.specs.Links.{is_same_point, IsLink, climb, cross, descend, pecks, plunge, way_home}
 use Rattle.mill_links.specs.Tours.{AreLinks, IsTour, last_place}
@@ -49,7 +49,7 @@ after n a b h = omega (h, length-append a b, arith)
 both : (a b c d : List Move) → a ≡ b → length c ≤ length d → length (a ++ c) ≤ length (b ++ d)
 both a b c d e h = subst (λ (ms : List Move). length (a ++ c) ≤ length (ms ++ d)) e (omega (h, length-append a c, length-append a d, arith))
 
-module _ (job : Job) (part : List Tri) where
+module _ (job : JobFields) (part : List Tri) where
   -- links to the first visits are the first of the links to all
   links_begin : (done : List Move) (from : Pt3) (first rest : List Visit) (ls ks : List (List Move)) → AreLinks job part done from first ls → AreLinks job part done from (first ++ rest) ks
       → length (joined ls) ≤ length (joined ks)
@@ -111,19 +111,19 @@ step_if : (holds : Bool) (lattice : Lattice) (number : ℕ) (z : ℤ) → HaveSt
 step_if true lattice number z = All-cons (λ (v : Visit). v.step ≡ lattice.step) (visit_at lattice number z) [] refl (All-nil (λ (v : Visit). v.step ≡ lattice.step))
 step_if false lattice number z = All-nil (λ (v : Visit). v.step ≡ lattice.step)
 
-rough_step : (job : Job) (heights : List ℤ) (z : ℤ) (number : ℕ) → HaveStep job.rough_raster (rough_visit job heights z number)
+rough_step : (job : JobFields) (heights : List ℤ) (z : ℤ) (number : ℕ) → HaveStep job.rough_raster (rough_visit job heights z number)
 rough_step job heights z number = step_if (int_le (height_at heights number +ℤ job.rough_stock) z) (rough_lattice job) number z
 
-rough_steps : (job : Job) (heights : List ℤ) → HaveStep job.rough_raster (rough_visits_of job heights)
+rough_steps : (job : JobFields) (heights : List ℤ) → HaveStep job.rough_raster (rough_visits_of job heights)
 rough_steps job heights =
     All-flat_map (λ (v : Visit). v.step ≡ job.rough_raster) (rough_visits_on job heights) (layer_heights job) (pos 0) (λ k inside.
     All-flat_map (λ (v : Visit). v.step ≡ job.rough_raster) (rough_visit job heights (get_or (layer_heights job) k (pos 0))) (zigzag_of (rough_lattice job)) 0 (λ place within.
     rough_step job heights (get_or (layer_heights job) k (pos 0)) (get_or (zigzag_of (rough_lattice job)) place 0)))
 
-finish_step : (job : Job) (heights : List ℤ) (number : ℕ) → HaveStep job.raster (finish_visit job heights number)
+finish_step : (job : JobFields) (heights : List ℤ) (number : ℕ) → HaveStep job.raster (finish_visit job heights number)
 finish_step job heights number = step_if (int_lt (height_at heights number +ℤ job.lift) job.top) (finish_lattice job) number (height_at heights number +ℤ job.lift)
 
-finish_steps : (job : Job) (heights : List ℤ) → HaveStep job.raster (finish_visits_of job heights)
+finish_steps : (job : JobFields) (heights : List ℤ) → HaveStep job.raster (finish_visits_of job heights)
 finish_steps job heights =
     All-flat_map (λ (v : Visit). v.step ≡ job.raster) (finish_visit job heights) (zigzag_of (finish_lattice job)) 0 (λ place within.
     finish_step job heights (get_or (zigzag_of (finish_lattice job)) place 0))
@@ -136,7 +136,7 @@ outline_step step outline = at_each (outline.points ++ (if outline.closed then t
     at_each (p ∷ ps) =
         All-cons (λ (v : Visit). v.step ≡ step) (record { at = p; step = step }) (map (λ (q : Pt3). record { at = q; step = step }) ps) refl (at_each ps)
 
-level_steps : (job : Job) (waterlines : List (List Outline)) → HaveStep job.raster (level_visits_of job waterlines)
+level_steps : (job : JobFields) (waterlines : List (List Outline)) → HaveStep job.raster (level_visits_of job waterlines)
 level_steps job waterlines =
     all_given (λ (v : Visit). v.step ≡ job.raster) (flat_map (outline_visits job.raster)) waterlines (λ k d inside.
     all_given (λ (v : Visit). v.step ≡ job.raster) (outline_visits job.raster) (get_or waterlines k d) (λ i e within.
@@ -175,7 +175,7 @@ unfolding AreMoves
 apart_move [] apart = tt
 apart_move (v ∷ vs) apart = moves_elsewhere v vs apart.0 apart.1
 
-module _ (job : Job) (part : List Tri) where
+module _ (job : JobFields) (part : List Tri) where
   -- the link from such a visit to the next has a move, where they differ
   link_counts : (done : List Move) (v w : Visit) (link : List Move) → (w.at ≡ v.at → w.step ≡ v.step) → IsLink job part done v.at w link
       → (if is_same_visit v w then 0 else 1) ≤ length link
@@ -222,7 +222,7 @@ over : (a b c d : ℕ) → a < b → b ≤ c → c ≤ d → a < d
 over a b c d h g k = omega (h, g, k, arith)
 
 -- a plan comes through the visits of each of its parts, so that it has a move for each that differs from the one before it
-plan_counts : (job : Job) (part : List Tri) (before visits more : List Visit) (moves : List Move) (plan : IsPlan job part moves) → AreMoves visits
+plan_counts : (job : JobFields) (part : List Tri) (before visits more : List Visit) (moves : List Move) (plan : IsPlan job part moves) → AreMoves visits
     → plan.visits ≡ before ++ (visits ++ more) → most_changes < change_count visits → most_changes < length moves
 plan_counts job part before visits more moves plan apart all many =
     let tour : IsTour job part [] (home job) (before ++ (visits ++ more)) plan.toured = subst (λ (vs : List Visit). IsTour job part [] (home job) vs plan.toured) all plan.tour in
@@ -252,7 +252,7 @@ record AreMany (visits : List Visit) : Type 0 where
   apart : AreMoves visits
   count : most_changes < change_count visits
 
-many_at_nodes : (job : Job) (part : List Tri) (list : List Visit) → HaveManyNodeVisits job part → AreNodeVisits job part list → AreMany list
+many_at_nodes : (job : JobFields) (part : List Tri) (list : List Visit) → HaveManyNodeVisits job part → AreNodeVisits job part list → AreMany list
 many_at_nodes job part list many are =
     let same : list ≡ finish_visits_of job many.heights =
     are.visits ∙ ap (λ (heights : List ℤ). finish_visits_of job heights) (one_map (tool_of job) part job.floor (finish_lattice job) are.heights many.heights are.are many.are) in
@@ -261,7 +261,7 @@ many_at_nodes job part list many are =
       count = subst (λ (vs : List Visit). most_changes < change_count vs) (sym same) many.many;
     }
 
-many_along_rows : (job : Job) (part : List Tri) (tol : ℤ) (list : List Visit) → HaveManyRowVisits job part tol → AreRowVisits job part tol list → AreMany list
+many_along_rows : (job : JobFields) (part : List Tri) (tol : ℤ) (list : List Visit) → HaveManyRowVisits job part tol → AreRowVisits job part tol list → AreMany list
 many_along_rows job part tol list many are = record {
   apart = subst (λ (vs : List Visit). AreMoves vs) (sym are.visits) (apart_move (row_visits_from job 0 are.paths) (all_elsewhere job part tol are.paths are.are));
   count = subst (λ (vs : List Visit). most_changes < change_count vs) (sym are.visits)

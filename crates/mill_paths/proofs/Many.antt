@@ -8,7 +8,7 @@ use Rattle.mill_base.specs.declared.points.Tri.{Tri}
 use Rattle.mill_drop.specs.Maps.{AreDropHeights}
 use Rattle.mill_drop.proofs.Uniqueness.{one_map}
 use Rattle.mill_job.specs.Jobs.{tool_of}
-use Rattle.mill_job.specs.declared.job.Job.{Job}
+use Rattle.mill_job.specs.declared.fields.JobFields.{JobFields}
 use Rattle.mill_level.specs.Waterlines.{IsWaterline, Outline}
 use Rattle.mill_links.specs.declared.visit.Visit.{Visit}
 use Rattle.mill_paths.specs.Lattices.{finish_lattice, rough_lattice}
@@ -23,7 +23,7 @@ over n few many = omega arith
 none_over : most_changes < 0 → ⊥
 none_over many = omega arith
 
-pub few_finish : (job : Job) (part : List Tri) (list : List Visit) → AreFinishVisits job part list → change_count list ≤ most_changes → ¬ HaveManyFinishVisits job part
+pub few_finish : (job : JobFields) (part : List Tri) (list : List Visit) → AreFinishVisits job part list → change_count list ≤ most_changes → ¬ HaveManyFinishVisits job part
 few_finish job part list are few many = by job.path_tol are many
   where
     through : (a b c : ℕ) → a < b → b ≤ c → c ≤ a → ⊥
@@ -38,18 +38,18 @@ few_finish job part list are few many = by job.path_tol are many
         through most_changes (change_count (row_visits_from job 0 many.paths)) (change_count (row_visits_from job 0 are.paths)) many.many
         (first_changes job part tol many.rows many.paths are.paths many.are are.are) (subst (λ (visits : List Visit). change_count visits ≤ most_changes) are.visits few)
 
-pub few_rough : (job : Job) (part : List Tri) (heights : List ℤ) (list : List Visit) → AreDropHeights (tool_of job) part job.floor (rough_lattice job) heights
+pub few_rough : (job : JobFields) (part : List Tri) (heights : List ℤ) (list : List Visit) → AreDropHeights (tool_of job) part job.floor (rough_lattice job) heights
     → list ≡ rough_visits_of job heights → change_count list ≤ most_changes → ¬ HaveManyRoughVisits job part
 few_rough job part heights list are is few many =
     over (change_count list) few (subst (λ (visits : List Visit). most_changes < change_count visits) (sym is)
     (subst (λ (hs : List ℤ). most_changes < change_count (rough_visits_of job hs)) (one_map (tool_of job) part job.floor (rough_lattice job) many.heights heights many.are are) many.many))
 
 -- without a layer there are none
-pub none_rough : (job : Job) (part : List Tri) → job.layer ≡ pos 0 → ¬ HaveManyRoughVisits job part
+pub none_rough : (job : JobFields) (part : List Tri) → job.layer ≡ pos 0 → ¬ HaveManyRoughVisits job part
 none_rough job part none many =
     none_over (subst (λ (zs : List ℤ). most_changes < change_count (flat_map (rough_visits_on job many.heights) zs)) (no_layers job none) many.many)
 
-pub few_level : (job : Job) (part : List Tri) (waterlines : List (List Outline)) (list : List Visit) → AreWaterlines job part waterlines
+pub few_level : (job : JobFields) (part : List Tri) (waterlines : List (List Outline)) (list : List Visit) → AreWaterlines job part waterlines
     → list ≡ level_visits_of job waterlines → change_count list ≤ most_changes → ¬ HaveManyLevelVisits job part
 few_level job part waterlines list are is few many =
     over (change_count list) few (subst (λ (visits : List Visit). most_changes < change_count visits) (sym is)
@@ -60,8 +60,8 @@ pub no_level : (levels slice : List ℤ) (empty : Bool) → slice ≡ levels →
 no_level levels slice empty same test holds = sym same ∙ nil_from_length slice (eqb-true (length slice) 0 (sym test ∙ holds))
 
 -- without levels there are none
-pub no_waterlines : (job : Job) (part : List Tri) → job.levels ≡ [] → AreWaterlines job part []
+pub no_waterlines : (job : JobFields) (part : List Tri) → job.levels ≡ [] → AreWaterlines job part []
 no_waterlines job part none = subst (λ (zs : List ℤ). AllZip (λ z outlines. IsWaterline (tool_of job) part z (finish_lattice job) outlines) zs []) (sym none) tt
 
-pub none_level : (job : Job) (part : List Tri) → job.levels ≡ [] → ¬ HaveManyLevelVisits job part
+pub none_level : (job : JobFields) (part : List Tri) → job.levels ≡ [] → ¬ HaveManyLevelVisits job part
 none_level job part none = few_level job part [] [] (no_waterlines job part none) refl (omega arith)

@@ -18,7 +18,7 @@ use Rattle.mill_base.specs.declared.unit.Unit.{Unit}
 use Rattle.mill_geom.specs.declared.touch.Axis.{Axis}
 use Rattle.mill_geom.specs.declared.touch.Axis.TheVariants.{X, Y}
 use Rattle.mill_job.specs.Jobs.{IsJob, IsLevel, tool_of}
-use Rattle.mill_job.specs.declared.job.Job.{Job}
+use Rattle.mill_job.specs.declared.fields.JobFields.{JobFields}
 use Rattle.mill_level.specs.Grids.{Grid, differ, edge, is_blocked, is_crossing, upper_column, upper_row}
 use Rattle.mill_level.specs.Crossings.{Crossing, HasLastFree, TellsBlocked, on_the_way}
 use Rattle.mill_level.specs.Chains.{AreChains, Chain, crossings_of, times, times_in}
@@ -173,7 +173,7 @@ zip_given P Q R f each (x ∷ xs) [] h zips = absurd zips
 zip_given P Q R f each (x ∷ xs) (y ∷ ys) h zips =
     All-append P (f y) (flat_map f ys) (each x y (All-head Q x xs h) zips.0) (zip_given P Q R f each xs ys (All-tail Q x xs h) zips.1)
 
-module _ (job : Job) (part : List Tri) (ok : IsJob job) (z : ℤ) (low : job.floor ≤ℤ z) (high : z <ℤ job.top) where
+module _ (job : JobFields) (part : List Tri) (ok : IsJob job) (z : ℤ) (low : job.floor ≤ℤ z) (high : z <ℤ job.top) where
   abbrev visit_of : Pt3 → Visit
   visit_of p = record { at = p; step = job.raster }
 
@@ -221,7 +221,7 @@ module _ (job : Job) (part : List Tri) (ok : IsJob job) (z : ℤ) (low : job.flo
       (all_of (λ c. IsVisit job part (visit_of (point_at c.x c.y z))) (crossings_of chain) (λ c on. crossing_ok outlines line chain c there on)))))))
 
 -- so are those along all waterlines of a job
-pub level_visits_ok : (job : Job) (part : List Tri) (waterlines : List (List Outline)) → IsJob job → AreWaterlines job part waterlines → All (IsVisit job part) (level_visits_of job waterlines)
+pub level_visits_ok : (job : JobFields) (part : List Tri) (waterlines : List (List Outline)) → IsJob job → AreWaterlines job part waterlines → All (IsVisit job part) (level_visits_of job waterlines)
 level_visits_ok job part waterlines ok are =
     zip_given (IsVisit job part) (IsLevel job.floor job.top) (λ z outlines. IsWaterline (tool_of job) part z (finish_lattice job) outlines) (flat_map (outline_visits job.raster))
     (λ z outlines level line. waterline_ok job part ok z level.over_floor level.under_top outlines line) job.levels waterlines ok.levels_ok.within are

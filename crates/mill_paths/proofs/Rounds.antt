@@ -6,7 +6,7 @@ use Rattle.std.proofs.lemmas.List.Elements.{All-weaker}
 use Rattle.mill_base.specs.declared.points.Tri.{Tri}
 use Rattle.mill_job.specs.Columns.{home}
 use Rattle.mill_job.specs.Jobs.{IsJob}
-use Rattle.mill_job.specs.declared.job.Job.{Job}
+use Rattle.mill_job.specs.declared.fields.JobFields.{JobFields}
 use Rattle.mill_links.specs.Links.{way_home}
 use Rattle.mill_links.specs.Safety.{GoSafely, IsFreePlace, IsReached}
 use Rattle.mill_links.specs.Tours.{last_place}
@@ -19,7 +19,7 @@ level : (z : ℤ) → z ≤ℤ z
 level z = omega (arith, ints)
 
 -- the tool may stand at a visit
-pub free_place : (job : Job) (part : List Tri) (visit : Visit) → IsVisit job part visit → IsFreePlace job part visit.at
+pub free_place : (job : JobFields) (part : List Tri) (visit : Visit) → IsVisit job part visit → IsFreePlace job part visit.at
 free_place job part visit is = record {
   ranged = is.in_range;
   floor = is.kept;
@@ -31,7 +31,7 @@ free_place job part visit is = record {
     under a b h = omega (h, arith, ints)
 
 -- before the first move it is at home
-pub at_home : (job : Job) (part : List Tri) → IsJob job → IsReached job part [] (home job)
+pub at_home : (job : JobFields) (part : List Tri) → IsJob job → IsReached job part [] (home job)
 at_home job part ok = record {
   ranged = record { x_ok = ok.home_ok.x_ok; y_ok = ok.home_ok.y_ok; z_ok = ok.clear_ok };
   floor = through job.floor job.top job.clear ok.stock ok.over_stock;

@@ -18,7 +18,7 @@ use Rattle.mill_drop.specs.Drops.{IsDropHeight}
 use Rattle.mill_drop.specs.Paths.{GoesOn, IsTip, KeepsTolerance}
 use Rattle.mill_drop.proofs.PathLemmas.{path_keeps}
 use Rattle.mill_job.specs.Jobs.{IsFrom, IsJob, tool_of}
-use Rattle.mill_job.specs.declared.job.Job.{Job}
+use Rattle.mill_job.specs.declared.fields.JobFields.{JobFields}
 use Rattle.mill_links.specs.declared.visit.Visit.{Visit}
 use Rattle.mill_paths.specs.Visits.{IsVisit, in_turn, point_visit, point_visits, step_from, visits_after}
 use Rattle.mill_paths.specs.RowPaths.{IsTurnedPath, row_y}
@@ -38,7 +38,7 @@ onward tool part y x1 floor tol a (b ∷ points) goes =
     past : (u v w : ℤ) → u <ℤ v → v ≤ℤ w → u ≤ℤ w
     past u v w h e = omega (h, e, arith, ints)
 
-module _ (job : Job) where
+module _ (job : JobFields) where
   inside_on : (tool : Tool) (part : List Tri) (y floor tol : ℤ) (a : Pt3) (points : List Pt3) → GoesOn tool part y job.area.x1 floor tol a points
       → job.area.x0 ≤ℤ a.x → All (IsInArea job) points
   inside_on tool part y floor tol a [] goes from = All-nil (IsInArea job)
@@ -64,7 +64,7 @@ module _ (job : Job) where
       start u v e = omega (e, arith, ints)
 
 -- a point in the job's area is in range in x
-pub x_within : (job : Job) (p : Pt3) → IsJob job → IsInArea job p → Within MAX_COORDINATE p.x
+pub x_within : (job : JobFields) (p : Pt3) → IsJob job → IsInArea job p → Within MAX_COORDINATE p.x
 x_within job p ok at =
     between job.area.x0 p.x job.area.x1 (within_of_unit job.unit job.area.x0 ok.x0_ok) (within_of_unit job.unit job.area.x1 ok.x1_ok) at.from_x0 at.to_x1
   where
@@ -89,7 +89,7 @@ all_in_turn P row points each = by (row % 2 == 0)
     by false = all_reverse P points each
 
 -- so those of a path in its turn lie in the job's area
-turned_inside : (job : Job) (part : List Tri) (tol : ℤ) (row : ℕ) (points : List Pt3) → IsJob job → IsTurnedPath job part tol row points → All (IsInArea job) points
+turned_inside : (job : JobFields) (part : List Tri) (tol : ℤ) (row : ℕ) (points : List Pt3) → IsJob job → IsTurnedPath job part tol row points → All (IsInArea job) points
 turned_inside job part tol row points ok turned =
     let keeps : KeepsTolerance (tool_of job) part (row_y job row) job.area.x0 job.area.x1 job.floor tol turned.path =
     path_keeps (tool_of job) part (row_y job row) job.area.x0 job.area.x1 job.floor tol turned.path ok.x_order turned.is in
@@ -97,7 +97,7 @@ turned_inside job part tol row points ok turned =
     (all_in_turn (IsInArea job) row turned.path (path_inside job (tool_of job) part (row_y job row) job.floor tol turned.path keeps))
 
 -- and so do those of all these paths
-pub all_inside : {V : Type 0} (items : V → List Pt3) (job : Job) (part : List Tri) (tol : ℤ) (rows : List ℕ) (paths : List V) → IsJob job
+pub all_inside : {V : Type 0} (items : V → List Pt3) (job : JobFields) (part : List Tri) (tol : ℤ) (rows : List ℕ) (paths : List V) → IsJob job
     → AllZip (IsTurnedPath job part tol) rows (map items paths) → All (λ path. All (IsInArea job) (items path)) paths
 all_inside items job part tol [] [] ok are = All-nil (λ path. All (IsInArea job) (items path))
 all_inside items job part tol [] (path ∷ paths) ok are = absurd are
@@ -123,11 +123,11 @@ way_ok : (x0 x1 u v : ℤ) → Within MAX_COORDINATE x0 → Within MAX_COORDINAT
 way_ok x0 x1 u v low high a b c d = let p = low.within in let q = high.within in omega (p, q, a, b, c, d, arith, ints)
 
 -- a point at its drop height over the row
-record IsRowTip (job : Job) (part : List Tri) (y : ℤ) (p : Pt3) : Type 0 where
+record IsRowTip (job : JobFields) (part : List Tri) (y : ℤ) (p : Pt3) : Type 0 where
   tip : IsTip (tool_of job) part y job.floor p
   inside : IsInArea job p
 
-module _ (job : Job) (part : List Tri) (y : ℤ) (ok : IsJob job) (y_ok : Within (greatest_of job.unit) y) where
+module _ (job : JobFields) (part : List Tri) (y : ℤ) (ok : IsJob job) (y_ok : Within (greatest_of job.unit) y) where
   raised_ok : (before p : Pt3) → IsInArea job before → IsRowTip job part y p → (p.z +ℤ job.lift) <ℤ job.top
       → IsVisit job part (record { at = point_at p.x p.y (p.z +ℤ job.lift); step = step_from job before p })
   raised_ok before p from tip under =

@@ -8,7 +8,7 @@ use Rattle.mill_base.specs.Lattices.{lattice_ys}
 use Rattle.mill_base.specs.Points.{point_at}
 use Rattle.mill_base.specs.declared.points.Pt3.{Pt3}
 use Rattle.mill_base.specs.declared.points.Tri.{Tri}
-use Rattle.mill_job.specs.declared.job.Job.{Job}
+use Rattle.mill_job.specs.declared.fields.JobFields.{JobFields}
 use Rattle.mill_links.specs.declared.visit.Visit.{Visit}
 use Rattle.mill_paths.specs.Lattices.{finish_lattice}
 use Rattle.mill_paths.specs.Limits.{IsListFault, change_count, most_changes}
@@ -26,7 +26,7 @@ last_more : (before : Pt3) (points : List Pt3) (p : Pt3) → last_point before (
 last_more before [] p = refl
 last_more before (q ∷ points) p = last_more q points p
 
-module _ (job : Job) where
+module _ (job : JobFields) where
   -- the visits at points and at others after them
   visits_join : (before : Pt3) (ps qs : List Pt3) → visits_after job before (ps ++ qs) ≡ visits_after job before ps ++ visits_after job (last_point before ps) qs
   visits_join before [] qs = refl

@@ -12,7 +12,7 @@ use Rattle.mill_drop.proofs.PathLemmas.{same_path}
 use Rattle.mill_drop.proofs.Uniqueness.{one_map}
 use Rattle.mill_job.specs.Columns.{home}
 use Rattle.mill_job.specs.Jobs.{tool_of}
-use Rattle.mill_job.specs.declared.job.Job.{Job}
+use Rattle.mill_job.specs.declared.fields.JobFields.{JobFields}
 use Rattle.mill_level.specs.Waterlines.{IsWaterline, Outline}
 use Rattle.mill_level.proofs.Apart.{joins_are_apart}
 use Rattle.mill_level.proofs.OneWaterline.{one_waterline}
@@ -28,11 +28,11 @@ use Rattle.mill_paths.proofs.Changes.{more_changes}
 use Rattle.mill_paths.proofs.RowVisits.{rows_join}
 
 -- where the job has no layer there is no roughing visit
-none_rough : (job : Job) (heights : List ℤ) → int_lt (pos 0) job.layer ≡ false → rough_visits_of job heights ≡ []
+none_rough : (job : JobFields) (heights : List ℤ) → int_lt (pos 0) job.layer ≡ false → rough_visits_of job heights ≡ []
 none_rough job heights none =
     ap (λ (t : Bool). flat_map (rough_visits_on job heights) (if t then map (λ k. job.top -ℤ pos k *ℤ job.layer) (range_with_len 1 (layer_count job)) else [])) none
 
-pub one_rough : (job : Job) (part : List Tri) (a b : List Visit) → AreRoughVisits job part a → AreRoughVisits job part b → a ≡ b
+pub one_rough : (job : JobFields) (part : List Tri) (a b : List Visit) → AreRoughVisits job part a → AreRoughVisits job part b → a ≡ b
 one_rough job part a b h g = h.visits ∙ by (int_lt (pos 0) job.layer) refl ∙ sym g.visits
   where
     some : (layer : ℤ) → int_lt (pos 0) layer ≡ true → (pos 0) <ℤ layer
@@ -63,13 +63,13 @@ first_of R (suc n) (x ∷ xs) [] h = absurd h
 first_of R (suc n) (x ∷ xs) (y ∷ ys) h = (h.0, first_of R n xs ys h.1)
 
 -- the finishing visits at the nodes, and those along the rows' paths
-one_at_nodes : (job : Job) (part : List Tri) (a b : List Visit) → AreNodeVisits job part a → AreNodeVisits job part b → a ≡ b
+one_at_nodes : (job : JobFields) (part : List Tri) (a b : List Visit) → AreNodeVisits job part a → AreNodeVisits job part b → a ≡ b
 one_at_nodes job part a b h g =
     h.visits
     ∙ ap (λ (heights : List ℤ). finish_visits_of job heights) (one_map (tool_of job) part job.floor (finish_lattice job) h.heights g.heights h.are g.are)
     ∙ sym g.visits
 
-module _ (job : Job) (part : List Tri) (tol : ℤ) where
+module _ (job : JobFields) (part : List Tri) (tol : ℤ) where
   one_row : (y : ℤ) (a b : List Pt3) → IsRowPath job part tol y a → IsRowPath job part tol y b → a ≡ b
   one_row y a b h g = same_path (tool_of job) part y job.area.x0 job.area.x1 job.floor tol a b h g
 
@@ -90,7 +90,7 @@ module _ (job : Job) (part : List Tri) (tol : ℤ) where
       (subst (λ (visits : List Visit). change_count (row_visits_from job 0 first) ≤ change_count visits) (sym (rows_join job 0 first (drop rows all)))
       (more_changes (row_visits_from job 0 first) (row_visits_from job (0 + length first) (drop rows all))))
 
-pub one_finish : (job : Job) (part : List Tri) (a b : List Visit) → AreFinishVisits job part a → AreFinishVisits job part b → a ≡ b
+pub one_finish : (job : JobFields) (part : List Tri) (a b : List Visit) → AreFinishVisits job part a → AreFinishVisits job part b → a ≡ b
 one_finish job part a b h g = by job.path_tol h g
   where
     by : (t : Option ℤ) → MatchOption t (AreNodeVisits job part a) (λ tol. AreRowVisits job part tol a) → MatchOption t (AreNodeVisits job part b) (λ tol. AreRowVisits job part tol b)
@@ -98,17 +98,17 @@ one_finish job part a b h g = by job.path_tol h g
     by None p q = one_at_nodes job part a b p q
     by (Some tol) p q = one_along_rows job part tol a b p q
 
-pub one_waterlines : (job : Job) (part : List Tri) (a b : List (List Outline)) → AreWaterlines job part a → AreWaterlines job part b → a ≡ b
+pub one_waterlines : (job : JobFields) (part : List Tri) (a b : List (List Outline)) → AreWaterlines job part a → AreWaterlines job part b → a ≡ b
 one_waterlines job part a b h g =
     one_list (λ z outlines. IsWaterline (tool_of job) part z (finish_lattice job) outlines)
     (λ z ours theirs p q. one_waterline joins_are_apart (tool_of job) part z (finish_lattice job) ours theirs p q) job.levels a b h g
 
-pub one_level : (job : Job) (part : List Tri) (a b : List Visit) → AreLevelVisits job part a → AreLevelVisits job part b → a ≡ b
+pub one_level : (job : JobFields) (part : List Tri) (a b : List Visit) → AreLevelVisits job part a → AreLevelVisits job part b → a ≡ b
 one_level job part a b h g =
     h.visits ∙ ap (λ (lines : List (List Outline)). level_visits_of job lines) (one_waterlines job part h.waterlines g.waterlines h.are g.are) ∙ sym g.visits
 
 -- the link to a visit: the three kinds exclude each other
-pub one_link : (job : Job) (part : List Tri) (done : List Move) (from : Pt3) (visit : Visit) (a b : List Move) → IsLink job part done from visit a → IsLink job part done from visit b → a ≡ b
+pub one_link : (job : JobFields) (part : List Tri) (done : List Move) (from : Pt3) (visit : Visit) (a b : List Move) → IsLink job part done from visit a → IsLink job part done from visit b → a ≡ b
 one_link job part done from visit a b (inl h) (inl g) = h.none ∙ sym g.none
 one_link job part done from visit a b (inl h) (inr (inl g)) = absurd (g.away h.there)
 one_link job part done from visit a b (inl h) (inr (inr g)) = absurd (g.away h.there)
@@ -119,7 +119,7 @@ one_link job part done from visit a b (inr (inr h)) (inl g) = absurd (h.away g.t
 one_link job part done from visit a b (inr (inr h)) (inr (inl g)) = absurd (h.barred g.free)
 one_link job part done from visit a b (inr (inr h)) (inr (inr g)) = h.round ∙ sym g.round
 
-one_links : (job : Job) (part : List Tri) (done : List Move) (from : Pt3) (visits : List Visit) (ls ks : List (List Move)) → AreLinks job part done from visits ls
+one_links : (job : JobFields) (part : List Tri) (done : List Move) (from : Pt3) (visits : List Visit) (ls ks : List (List Move)) → AreLinks job part done from visits ls
     → AreLinks job part done from visits ks → ls ≡ ks
 one_links job part done from [] [] [] h g = refl
 one_links job part done from [] [] (k ∷ ks) h g = absurd g
@@ -131,13 +131,13 @@ one_links job part done from (v ∷ vs) (l ∷ ls) (k ∷ ks) h g =
     let later : AreLinks job part (done ++ l) v.at vs ks = subst (λ (m : List Move). AreLinks job part (done ++ m) v.at vs ks) (sym same) g.1 in
     ap (λ (m : List Move). m ∷ ls) same ∙ ap (λ (ms : List (List Move)). k ∷ ms) (one_links job part (done ++ l) v.at vs ls ks h.1 later)
 
-pub one_tour : (job : Job) (part : List Tri) (done : List Move) (from : Pt3) (visits : List Visit) (a b : List Move) → IsTour job part done from visits a
+pub one_tour : (job : JobFields) (part : List Tri) (done : List Move) (from : Pt3) (visits : List Visit) (a b : List Move) → IsTour job part done from visits a
     → IsTour job part done from visits b → a ≡ b
 one_tour job part done from visits a b h g =
     h.joined ∙ ap (λ (links : List (List Move)). flat_map (λ (link : List Move). link) links) (one_links job part done from visits h.links g.links h.are g.are) ∙ sym g.joined
 
 -- a job and a part have one list of visits at most
-pub one_visits : (job : Job) (part : List Tri) (a b : List Visit) → ArePlanVisits job part a → ArePlanVisits job part b → a ≡ b
+pub one_visits : (job : JobFields) (part : List Tri) (a b : List Visit) → ArePlanVisits job part a → ArePlanVisits job part b → a ≡ b
 one_visits job part a b h g =
     h.all
     ∙ ap (λ (vs : List Visit). vs ++ h.level ++ h.finish) (one_rough job part h.rough g.rough h.are_rough g.are_rough)

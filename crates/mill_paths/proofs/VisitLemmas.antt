@@ -21,7 +21,7 @@ use Rattle.mill_drop.proofs.PathLemmas.{path_keeps}
 use Rattle.mill_base.proofs.NodeLemmas.{length-rows, get_or-rows, row_within, length-positions, get_or-positions}
 use Rattle.mill_job.specs.Jobs.{IsFrom, IsJob, tool_of}
 use Rattle.mill_job.specs.Tables.{IsArea}
-use Rattle.mill_job.specs.declared.job.Job.{Job}
+use Rattle.mill_job.specs.declared.fields.JobFields.{JobFields}
 use Rattle.mill_links.specs.declared.visit.Visit.{Visit}
 use Rattle.mill_paths.specs.Lattices.{finish_lattice, rough_lattice, zigzag_of, zigzag_row}
 use Rattle.mill_paths.specs.Visits.{FinishVisitsAreFree, RoughVisitsAreFree, AreNodeVisits, AreRowVisits, IsRowPath, IsVisit, in_turn, point_visits, row_visits_from, finish_visit, finish_visits_of, height_at, layer_heights, rough_visit, rough_visits_of, rough_visits_on, visit_at, visit_if}
@@ -72,7 +72,7 @@ pub record IsJobLattice (unit : Unit) (lattice : Lattice) : Type 0 where
   pub area_ok : IsArea unit lattice.area
   pub step_ok : IsFrom (pos 1) (pos 10000) lattice.step
 
-pub area_in_range : (job : Job) → IsJob job → IsArea job.unit job.area
+pub area_in_range : (job : JobFields) → IsJob job → IsArea job.unit job.area
 area_in_range job ok = record { x0_ok = ok.x0_ok; y0_ok = ok.y0_ok; x1_ok = ok.x1_ok; y1_ok = ok.y1_ok; x_order = ok.x_order; y_order = ok.y_order }
 
 node_within : (unit : Unit) (lattice : Lattice) (number : ℕ) → IsJobLattice unit lattice → number < length (nodes_of lattice) → IsPlace unit (node_at lattice number)
@@ -92,7 +92,7 @@ pub wider_step : (step : ℤ) → IsFrom (pos 1) (pos 10000) step → IsFrom (po
 wider_step step ok = let high = ok.high in record { low = ok.low; high = omega (high, arith, ints) }
 
 -- a visit of a job over a node, from its drop height on and under the top
-visit_ok : (job : Job) (part : List Tri) (lattice : Lattice) (heights : List ℤ) (number : ℕ) (z : ℤ) → IsJob job → IsJobLattice job.unit lattice
+visit_ok : (job : JobFields) (part : List Tri) (lattice : Lattice) (heights : List ℤ) (number : ℕ) (z : ℤ) → IsJob job → IsJobLattice job.unit lattice
     → AreDropHeights (tool_of job) part job.floor lattice heights → number < length (nodes_of lattice) → height_at heights number ≤ℤ z → z <ℤ job.top
     → IsVisit job part (visit_at lattice number z)
 visit_ok job part lattice heights number z ok lattice_ok are inside free under =
@@ -121,7 +121,7 @@ if_ok P true lattice number z h = All-cons P (visit_at lattice number z) [] (h r
 if_ok P false lattice number z h = All-nil P
 
 -- each visit on a layer between floor and top
-rough_visit_ok : (job : Job) (part : List Tri) (heights : List ℤ) (z : ℤ) (number : ℕ) → IsJob job → IsLayerHeight job z
+rough_visit_ok : (job : JobFields) (part : List Tri) (heights : List ℤ) (z : ℤ) (number : ℕ) → IsJob job → IsLayerHeight job z
     → AreDropHeights (tool_of job) part job.floor (rough_lattice job) heights → number < length (nodes_of (rough_lattice job)) → All (IsVisit job part) (rough_visit job heights z number)
 rough_visit_ok job part heights z number ok height are inside =
     if_ok (IsVisit job part) (int_le (height_at heights number +ℤ job.rough_stock) z) (rough_lattice job) number z
@@ -130,7 +130,7 @@ rough_visit_ok job part heights z number ok height are inside =
     less : (h stock z : ℤ) → (pos 0) ≤ℤ stock → int_le (h +ℤ stock) z ≡ true → h ≤ℤ z
     less h stock z least e = omega (arith, ints)
 
-finish_visit_ok : (job : Job) (part : List Tri) (heights : List ℤ) (number : ℕ) → IsJob job
+finish_visit_ok : (job : JobFields) (part : List Tri) (heights : List ℤ) (number : ℕ) → IsJob job
     → AreDropHeights (tool_of job) part job.floor (finish_lattice job) heights → number < length (nodes_of (finish_lattice job)) → All (IsVisit job part) (finish_visit job heights number)
 finish_visit_ok job part heights number ok are inside =
     if_ok (IsVisit job part) (int_lt (height_at heights number +ℤ job.lift) job.top) (finish_lattice job) number (height_at heights number +ℤ job.lift)
@@ -160,12 +160,12 @@ zigzag_ok P f lattice each =
     plain n = omega arith
 
 -- the finishing visits at the nodes, and the roughing visits
-pub node_visits_ok : (job : Job) (part : List Tri) (heights : List ℤ) → IsJob job
+pub node_visits_ok : (job : JobFields) (part : List Tri) (heights : List ℤ) → IsJob job
     → AreDropHeights (tool_of job) part job.floor (finish_lattice job) heights → All (IsVisit job part) (finish_visits_of job heights)
 node_visits_ok job part heights ok are =
     zigzag_ok (IsVisit job part) (finish_visit job heights) (finish_lattice job) (λ number inside. finish_visit_ok job part heights number ok are inside)
 
-pub rough_visits_ok : (job : Job) (part : List Tri) (heights : List ℤ) → IsJob job → (pos 0) <ℤ job.layer
+pub rough_visits_ok : (job : JobFields) (part : List Tri) (heights : List ℤ) → IsJob job → (pos 0) <ℤ job.layer
     → AreDropHeights (tool_of job) part job.floor (rough_lattice job) heights → All (IsVisit job part) (rough_visits_of job heights)
 rough_visits_ok job part heights ok some are =
     All-flat_map (IsVisit job part) (rough_visits_on job heights) (layer_heights job) (pos 0) (λ k inside.
@@ -173,15 +173,15 @@ rough_visits_ok job part heights ok some are =
     rough_visit_ok job part heights (get_or (layer_heights job) k (pos 0)) number ok (is_layer_height job k ok some inside) are within))
 
 -- so are those along the rows' paths
-pub row_in_range : (job : Job) (row : ℕ) → IsJob job → row < length (lattice_ys (finish_lattice job)) → Within (greatest_of job.unit) (get_or (lattice_ys (finish_lattice job)) row (pos 0))
+pub row_in_range : (job : JobFields) (row : ℕ) → IsJob job → row < length (lattice_ys (finish_lattice job)) → Within (greatest_of job.unit) (get_or (lattice_ys (finish_lattice job)) row (pos 0))
 row_in_range job row ok inside = positions_within (greatest_of job.unit) job.area.y0 job.area.y1 job.raster row ok.y0_ok ok.y1_ok ok.y_order ok.raster_ok.low inside
 
-rows_in_range : (job : Job) → IsJob job → All (Within (greatest_of job.unit)) (lattice_ys (finish_lattice job))
+rows_in_range : (job : JobFields) → IsJob job → All (Within (greatest_of job.unit)) (lattice_ys (finish_lattice job))
 rows_in_range job ok = λ k d inside.
     subst (λ (y : ℤ). Within (greatest_of job.unit) y) (get_or_default (lattice_ys (finish_lattice job)) k (pos 0) d inside)
     (row_in_range job k ok inside)
 
-rows_ok : (job : Job) (part : List Tri) (tol : ℤ) (row : ℕ) (ys : List ℤ) (paths : List (List Pt3)) → IsJob job → All (Within (greatest_of job.unit)) ys
+rows_ok : (job : JobFields) (part : List Tri) (tol : ℤ) (row : ℕ) (ys : List ℤ) (paths : List (List Pt3)) → IsJob job → All (Within (greatest_of job.unit)) ys
     → AllZip (IsRowPath job part tol) ys paths → All (IsVisit job part) (row_visits_from job row paths)
 rows_ok job part tol row [] [] ok within are = All-nil (IsVisit job part)
 rows_ok job part tol row [] (path ∷ paths) ok within are = absurd are

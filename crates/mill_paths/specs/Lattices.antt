@@ -3,18 +3,18 @@ use Rattle.std.specs.Prelude.{ℕ, ◌*◌, ◌%◌, ◌==◌, if◌then◌else�
 use Rattle.std.specs.List.{flat_map, range_with_len}
 use Rattle.mill_base.specs.Lattices.{lattice_xs, lattice_ys}
 use Rattle.mill_base.specs.declared.lattice.Lattice.{Lattice}
-use Rattle.mill_job.specs.declared.job.Job.{Job}
+use Rattle.mill_job.specs.declared.fields.JobFields.{JobFields}
 
 -- the lattice over the job's area by this step
-abbrev pub lattice_by : Job → ℤ → Lattice
+abbrev pub lattice_by : JobFields → ℤ → Lattice
 lattice_by job step = record { area = job.area; step = step }
 
 -- the lattice of the finishing path
-abbrev pub finish_lattice : Job → Lattice
+abbrev pub finish_lattice : JobFields → Lattice
 finish_lattice job = lattice_by job job.raster
 
 -- the lattice of the roughing paths
-abbrev pub rough_lattice : Job → Lattice
+abbrev pub rough_lattice : JobFields → Lattice
 rough_lattice job = lattice_by job job.rough_raster
 
 -- the numbers of the nodes of a row, from 0, where each row has so many: x ascends in the rows 0, 2, 4 and so on, and descends in the others

@@ -3,14 +3,14 @@ use Rattle.std.specs.Prelude.{◌≡◌, List, [], ◌++◌}
 use Rattle.mill_base.specs.declared.points.Tri.{Tri}
 use Rattle.mill_base.specs.declared.motion.Move.{Move}
 use Rattle.mill_job.specs.Columns.{home}
-use Rattle.mill_job.specs.declared.job.Job.{Job}
+use Rattle.mill_job.specs.declared.fields.JobFields.{JobFields}
 use Rattle.mill_links.specs.Links.{way_home}
 use Rattle.mill_links.specs.Tours.{IsTour, last_place}
 use Rattle.mill_links.specs.declared.visit.Visit.{Visit}
 use Rattle.mill_paths.specs.Visits.{AreRoughVisits, AreLevelVisits, AreFinishVisits}
 
 -- the visits of a plan: of its roughing, of its levels, and of its finishing path
-pub record ArePlanVisits (job : Job) (part : List Tri) (visits : List Visit) : Type 0 where
+pub record ArePlanVisits (job : JobFields) (part : List Tri) (visits : List Visit) : Type 0 where
   pub rough : List Visit
   pub level : List Visit
   pub finish : List Visit
@@ -20,7 +20,7 @@ pub record ArePlanVisits (job : Job) (part : List Tri) (visits : List Visit) : T
   pub all : visits ≡ rough ++ level ++ finish
 
 -- the moves of a plan: from home through its visits, and home again
-pub record IsPlan (job : Job) (part : List Tri) (moves : List Move) : Type 0 where
+pub record IsPlan (job : JobFields) (part : List Tri) (moves : List Move) : Type 0 where
   pub visits : List Visit
   pub are : ArePlanVisits job part visits
   pub toured : List Move

@@ -6,7 +6,7 @@ use Rattle.mill_base.specs.declared.points.Tri.{Tri}
 use Rattle.mill_base.specs.declared.motion.Move.{Move}
 use Rattle.mill_job.specs.Columns.{home}
 use Rattle.mill_job.specs.Jobs.{IsJob}
-use Rattle.mill_job.specs.declared.job.Job.{Job}
+use Rattle.mill_job.specs.declared.fields.JobFields.{JobFields}
 use Rattle.mill_links.specs.Links.{way_home}
 use Rattle.mill_links.specs.Safety.{GoSafely}
 use Rattle.mill_links.specs.Tours.{IsTour, last_place}
@@ -17,10 +17,10 @@ use Rattle.mill_paths.specs.Visits.{HaveManyRoughVisits, HaveManyLevelVisits, Ha
 
 -- a job and a part have at most one plan
 abbrev pub OnePlan : Type 0
-OnePlan = (job : Job) (part : List Tri) (a b : List Move) → IsPlan job part a → IsPlan job part b → a ≡ b
+OnePlan = (job : JobFields) (part : List Tri) (a b : List Move) → IsPlan job part a → IsPlan job part b → a ≡ b
 
 -- the moves go from this place through the first of the visits
-pub record BeginsTour (job : Job) (part : List Tri) (from : Pt3) (visits : List Visit) (moves : List Move) : Type 0 where
+pub record BeginsTour (job : JobFields) (part : List Tri) (from : Pt3) (visits : List Visit) (moves : List Move) : Type 0 where
   pub first : List Visit
   pub rest : List Visit
   pub all : visits ≡ first ++ rest
@@ -28,23 +28,23 @@ pub record BeginsTour (job : Job) (part : List Tri) (from : Pt3) (visits : List 
 
 -- a plan has at least as many moves as the links to the first of its visits
 abbrev pub PlanIsLonger : Type 0
-PlanIsLonger = (job : Job) (part : List Tri) (visits : List Visit) (begun moves : List Move) → ArePlanVisits job part visits
+PlanIsLonger = (job : JobFields) (part : List Tri) (visits : List Visit) (begun moves : List Move) → ArePlanVisits job part visits
     → BeginsTour job part (home job) visits begun → IsPlan job part moves → length begun ≤ length moves
 
 -- where too many roughing visits differ from the one before them, a plan has too many moves
 abbrev pub ManyRoughVisitsMakeMoves : Type 0
-ManyRoughVisitsMakeMoves = (job : Job) (part : List Tri) (moves : List Move) → (pos 0) <ℤ job.layer → HaveManyRoughVisits job part → IsPlan job part moves
+ManyRoughVisitsMakeMoves = (job : JobFields) (part : List Tri) (moves : List Move) → (pos 0) <ℤ job.layer → HaveManyRoughVisits job part → IsPlan job part moves
     → most_changes < length moves
 
 -- so it has where too many level visits do
 abbrev pub ManyLevelVisitsMakeMoves : Type 0
-ManyLevelVisitsMakeMoves = (job : Job) (part : List Tri) (moves : List Move) → HaveManyLevelVisits job part → IsPlan job part moves → most_changes < length moves
+ManyLevelVisitsMakeMoves = (job : JobFields) (part : List Tri) (moves : List Move) → HaveManyLevelVisits job part → IsPlan job part moves → most_changes < length moves
 
 -- and where too many finishing visits do
 abbrev pub ManyFinishVisitsMakeMoves : Type 0
-ManyFinishVisitsMakeMoves = (job : Job) (part : List Tri) (moves : List Move) → HaveManyFinishVisits job part → IsPlan job part moves → most_changes < length moves
+ManyFinishVisitsMakeMoves = (job : JobFields) (part : List Tri) (moves : List Move) → HaveManyFinishVisits job part → IsPlan job part moves → most_changes < length moves
 
 -- a tour of visits from home, and the way home from its last, go safely
 abbrev pub RoundIsSafe : Type 0
-RoundIsSafe = (job : Job) (part : List Tri) (visits : List Visit) (toured : List Move) → IsJob job → IsUnder part job.top → All (IsVisit job part) visits
+RoundIsSafe = (job : JobFields) (part : List Tri) (visits : List Visit) (toured : List Move) → IsJob job → IsUnder part job.top → All (IsVisit job part) visits
     → IsTour job part [] (home job) visits toured → GoSafely job part [] (home job) (toured ++ way_home job (last_place (home job) visits)) (home job)

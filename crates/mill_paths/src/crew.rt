@@ -2,8 +2,7 @@
 ghost use Rattle.std.specs.Prelude.{◌≡◌, ◌≤◌, pos, length, map as map_list, IfOk};
 ghost use Rattle.mill_base.specs.Lattices.{lattice_ys, node_count};
 ghost use Rattle.mill_base.specs.declared.limits.TheConstants.{MAX_NODES};
-ghost use Rattle.mill_cells.specs.Sorted.{sorted_of};
-ghost use Rattle.mill_job.specs.Jobs.{IsFrom, IsJob};
+ghost use Rattle.mill_job.specs.Jobs.{IsFrom};
 ghost use Rattle.mill_job.specs.declared.limits.TheConstants.{MAX_DISTANCE};
 ghost use Rattle.mill_level.specs.Waterlines.{seen};
 ghost use Rattle.mill_paths.specs.Lattices.{finish_lattice as finish_lattice_of};
@@ -13,12 +12,11 @@ ghost use Rattle.mill_paths.specs.Visits.{AreWaterlines};
 use crate::row_paths::{paths_alone, paths_by_threads};
 use crate::waterlines::{waterlines_alone, waterlines_by_threads};
 use mill_base::{Pt3, WantOfMemory};
-use mill_cells::Cells;
 use mill_crew::{Alone, Threaded};
 use mill_drop::DropCrew;
 use mill_job::Job;
 use mill_level::Chain;
-use mill_part::Part;
+use mill_part::SortedPart;
 use std::alloc::Global;
 use std::ops::Range;
 use std::thread::Threads;
@@ -26,8 +24,7 @@ use std::thread::Threads;
 /// A crew that works out waterlines and the paths along rows, beside drop heights. A runtime's threads are as
 /// many as the machine has processors.
 ///
-/// What is made doesn't depend on it. The cells are always those of the part's triangles, lengths are in
-/// the job's units, and the only error is want of memory.
+/// What is made doesn't depend on it. Lengths are in the job's units, and the only error is want of memory.
 pub trait PathCrew: DropCrew {
     /// The waterlines of the job's tool at its levels, from the first level on, over the finishing
     /// lattice, which has at most 4,000,000 nodes.
@@ -35,14 +32,12 @@ pub trait PathCrew: DropCrew {
         &self,
         alloc: Global,
         job: &Job,
-        part: &Part,
-        cells: &Cells,
+        part: &SortedPart,
     ) -> Result<Vec<Vec<Chain>>, WantOfMemory>
         requires crew_ok { Self.ready }
-        requires job_ok { IsJob job.now }
-        requires cells_ok { cells.now ≡ sorted_of part.now }
-        requires few { node_count (finish_lattice_of job.now) ≤ MAX_NODES }
-        ensures { IfOk result (λ waterlines. AreWaterlines job.now part.now (map_list (λ chains. map_list seen chains.items) waterlines.items)) };
+        requires few { node_count (finish_lattice_of job.now.fields) ≤ MAX_NODES }
+        ensures { IfOk result (λ waterlines. AreWaterlines job.now.fields part.now (map_list
+            (λ chains. map_list seen chains.items) waterlines.items)) };
 
     /// The points of the paths by this tolerance along these rows of the finishing lattice, each in the
     /// order in which they are come to.
@@ -50,19 +45,17 @@ pub trait PathCrew: DropCrew {
         &self,
         alloc: Global,
         job: &Job,
-        part: &Part,
-        cells: &Cells,
+        part: &SortedPart,
         tol: i32,
         rows: Range<u32>,
     ) -> Result<Vec<Vec<Pt3>>, WantOfMemory>
         requires crew_ok { Self.ready }
-        requires job_ok { IsJob job.now }
-        requires cells_ok { cells.now ≡ sorted_of part.now }
         requires tol_ok { IsFrom (pos 0) MAX_DISTANCE tol }
-        requires few { node_count (finish_lattice_of job.now) ≤ MAX_NODES }
+        requires few { node_count (finish_lattice_of job.now.fields) ≤ MAX_NODES }
         requires order { rows.start ≤ rows.end }
-        requires rows_ok { rows.end ≤ length (lattice_ys (finish_lattice_of job.now)) }
-        ensures { IfOk result (λ paths. AreTurnedPaths job.now part.now tol rows.start rows.end (map_list (λ path. path.items) paths.items)) };
+        requires rows_ok { rows.end ≤ length (lattice_ys (finish_lattice_of job.now.fields)) }
+        ensures { IfOk result (λ paths. AreTurnedPaths job.now.fields part.now tol rows.start
+            rows.end (map_list (λ path. path.items) paths.items)) };
 }
 
 impl<'a, R: Threads + Sync> PathCrew for Threaded<'a, R> {
@@ -70,22 +63,20 @@ impl<'a, R: Threads + Sync> PathCrew for Threaded<'a, R> {
         &self,
         alloc: Global,
         job: &Job,
-        part: &Part,
-        cells: &Cells,
+        part: &SortedPart,
     ) -> Result<Vec<Vec<Chain>>, WantOfMemory> {
-        waterlines_by_threads(self.rt, alloc, job, part, cells)
+        waterlines_by_threads(self.rt, alloc, job, part)
     }
 
     fn paths(
         &self,
         alloc: Global,
         job: &Job,
-        part: &Part,
-        cells: &Cells,
+        part: &SortedPart,
         tol: i32,
         rows: Range<u32>,
     ) -> Result<Vec<Vec<Pt3>>, WantOfMemory> {
-        paths_by_threads(self.rt, alloc, job, part, cells, tol, rows)
+        paths_by_threads(self.rt, alloc, job, part, tol, rows)
     }
 }
 
@@ -94,21 +85,19 @@ impl PathCrew for Alone {
         &self,
         alloc: Global,
         job: &Job,
-        part: &Part,
-        cells: &Cells,
+        part: &SortedPart,
     ) -> Result<Vec<Vec<Chain>>, WantOfMemory> {
-        waterlines_alone(alloc, job, part, cells)
+        waterlines_alone(alloc, job, part)
     }
 
     fn paths(
         &self,
         alloc: Global,
         job: &Job,
-        part: &Part,
-        cells: &Cells,
+        part: &SortedPart,
         tol: i32,
         rows: Range<u32>,
     ) -> Result<Vec<Vec<Pt3>>, WantOfMemory> {
-        paths_alone(alloc, job, part, cells, tol, rows)
+        paths_alone(alloc, job, part, tol, rows)
     }
 }

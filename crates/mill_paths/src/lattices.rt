@@ -9,21 +9,21 @@ use mill_job::Job;
 
 /// The lattice that the finishing path goes over: the job's area by steps of its raster.
 pub fn finish_lattice(job: &Job) -> Lattice
-    ensures { result ≡ finish_lattice_of job.now }
+    ensures { result ≡ finish_lattice_of job.now.fields }
 {
     Lattice {
-        area: job.area,
-        step: job.raster,
+        area: job.fields.area,
+        step: job.fields.raster,
     }
 }
 
 /// The lattice that the roughing paths go over: the job's area by steps of its rough raster.
 pub fn rough_lattice(job: &Job) -> Lattice
-    ensures { result ≡ rough_lattice_of job.now }
+    ensures { result ≡ rough_lattice_of job.now.fields }
 {
     Lattice {
-        area: job.area,
-        step: job.rough_raster,
+        area: job.fields.area,
+        step: job.fields.rough_raster,
     }
 }
 

@@ -2,8 +2,6 @@ ghost use Rattle.std.specs.Prelude.{◌≡◌, ◌↔◌, ℕ, ◌<◌, ◌≤�
 ghost use Rattle.std.specs.List.{flat_map};
 ghost use Rattle.mill_base.specs.Lattices.{node_count};
 ghost use Rattle.mill_base.specs.declared.limits.TheConstants.{MAX_NODES};
-ghost use Rattle.mill_cells.specs.Sorted.{sorted_of};
-ghost use Rattle.mill_job.specs.Jobs.{IsJob};
 ghost use Rattle.mill_level.specs.Waterlines.{seen};
 ghost use Rattle.mill_paths.specs.Lattices.{finish_lattice as finish_lattice_of};
 ghost use Rattle.mill_paths.specs.Limits.{change_count, most_changes, HasManyNodes, IsHeightsFault, IsListFault};
@@ -16,18 +14,17 @@ use crate::fault::PathFault;
 use crate::lattices::{check_nodes, finish_lattice};
 use crate::visit_list::VisitList;
 use mill_base::Pt3;
-use mill_cells::Cells;
 use mill_job::Job;
 use mill_level::Chain;
 use mill_links::Visit;
-use mill_part::Part;
+use mill_part::SortedPart;
 use std::alloc::Global;
 
 /// The visits of a plan's levels, from the first level on: along each chain of the tool's waterline there,
 /// over the finishing lattice, and along a closed one up to its first point again. Without levels there
 /// are none, and the lattice isn't gone over.
 ///
-/// `cells` are those of the part's triangles. The visits are the same whatever the crew.
+/// The visits are the same whatever the crew.
 ///
 /// # Errors
 ///
@@ -38,24 +35,21 @@ pub fn level_visits<C: PathCrew>(
     crew: &C,
     alloc: Global,
     job: &Job,
-    part: &Part,
-    cells: &Cells,
+    part: &SortedPart,
 ) -> Result<Vec<Visit>, PathFault>
-    requires crew_ok { C.ready }
-    requires job_ok { IsJob job.now }
-    requires cells_ok { cells.now ≡ sorted_of part.now }
-    ensures list { IfOk result (λ visits. AreLevelVisits job.now part.now visits.items) }
-    ensures each { IfOk result (λ visits. All (IsVisit job.now part.now) visits.items) }
+    requires { C.ready }
+    ensures list { IfOk result (λ visits. AreLevelVisits job.now.fields part.now visits.items) }
+    ensures each { IfOk result (λ visits. All (IsVisit job.now.fields part.now) visits.items) }
     ensures few { IfOk result (λ visits. change_count visits.items ≤ most_changes) }
     ensures nodes { (nodes : ℕ) → IsErrOf result (TooManyNodes nodes)
-        ↔ ((0 < length job.now.levels) × HasManyNodes (finish_lattice_of job.now) nodes) }
-    ensures visits { IsErrOf result TooManyVisits → HaveManyLevelVisits job.now part.now }
-    ensures many { OnOk result (¬ HaveManyLevelVisits job.now part.now) }
+        ↔ ((0 < length job.now.fields.levels) × HasManyNodes (finish_lattice_of job.now.fields) nodes) }
+    ensures visits { IsErrOf result TooManyVisits → HaveManyLevelVisits job.now.fields part.now }
+    ensures many { OnOk result (¬ HaveManyLevelVisits job.now.fields part.now) }
 {
-    if job.levels.as_slice().is_empty() {
+    if job.fields.levels.as_slice().is_empty() {
         return Ok(Vec::new(alloc));
     }
-    let waterlines = waterlines_of(crew, alloc, job, part, cells)?;
+    let waterlines = waterlines_of(crew, alloc, job, part)?;
     let mut list = VisitList::new(alloc);
     add_waterlines(job, &waterlines, &mut list)?;
     Ok(list.into_visits())
@@ -67,19 +61,17 @@ fn waterlines_of<C: PathCrew>(
     crew: &C,
     alloc: Global,
     job: &Job,
-    part: &Part,
-    cells: &Cells,
+    part: &SortedPart,
 ) -> Result<Vec<Vec<Chain>>, PathFault>
-    requires crew_ok { C.ready }
-    requires job_ok { IsJob job.now }
-    requires cells_ok { cells.now ≡ sorted_of part.now }
-    ensures waterlines { IfOk result (λ waterlines. AreWaterlines job.now part.now (map_list (λ chains. map_list seen chains.items) waterlines.items)) }
-    ensures few { IfOk result (λ _. node_count (finish_lattice_of job.now) ≤ MAX_NODES) }
-    ensures fault { IfErr result (IsHeightsFault (finish_lattice_of job.now)) }
+    requires { C.ready }
+    ensures waterlines { IfOk result (λ waterlines. AreWaterlines job.now.fields part.now
+        (map_list (λ chains. map_list seen chains.items) waterlines.items)) }
+    ensures few { IfOk result (λ _. node_count (finish_lattice_of job.now.fields) ≤ MAX_NODES) }
+    ensures fault { IfErr result (IsHeightsFault (finish_lattice_of job.now.fields)) }
 {
     let lattice = finish_lattice(job);
     check_nodes(&lattice)?;
-    Ok(crew.waterlines(alloc, job, part, cells)?)
+    Ok(crew.waterlines(alloc, job, part)?)
 }
 
 /// Adds the visits along the chains of each waterline.
@@ -90,10 +82,10 @@ fn add_waterlines(
 ) -> Result<(), PathFault>
     ensures ok { OnOk result
         (list.new.visits.items ≡ list.old.visits.items
-        ++ level_visits_of job.now (map_list (λ chains. map_list seen chains.items) waterlines.now)) }
+        ++ level_visits_of job.now.fields (map_list (λ chains. map_list seen chains.items) waterlines.now)) }
     ensures fault { IfErr result
         (IsListFault (list.old.visits.items
-        ++ level_visits_of job.now (map_list (λ chains. map_list seen chains.items) waterlines.now))) }
+        ++ level_visits_of job.now.fields (map_list (λ chains. map_list seen chains.items) waterlines.now))) }
 {
     for chains in waterlines {
         add_chains(job, chains, list)?;
@@ -105,10 +97,10 @@ fn add_waterlines(
 fn add_chains(job: &Job, chains: &[Chain], list: &mut VisitList) -> Result<(), PathFault>
     ensures ok { OnOk result
         (list.new.visits.items ≡ list.old.visits.items
-        ++ flat_map (outline_visits job.now.raster) (map_list seen chains.now)) }
+        ++ flat_map (outline_visits job.now.fields.raster) (map_list seen chains.now)) }
     ensures fault { IfErr result
         (IsListFault (list.old.visits.items
-        ++ flat_map (outline_visits job.now.raster) (map_list seen chains.now))) }
+        ++ flat_map (outline_visits job.now.fields.raster) (map_list seen chains.now))) }
 {
     for chain in chains {
         add_chain(job, chain, list)?;
@@ -120,9 +112,9 @@ fn add_chains(job: &Job, chains: &[Chain], list: &mut VisitList) -> Result<(), P
 fn add_chain(job: &Job, chain: &Chain, list: &mut VisitList) -> Result<(), PathFault>
     ensures ok { OnOk result
         (list.new.visits.items ≡ list.old.visits.items
-        ++ outline_visits job.now.raster (seen chain.now)) }
+        ++ outline_visits job.now.fields.raster (seen chain.now)) }
     ensures fault { IfErr result
-        (IsListFault (list.old.visits.items ++ outline_visits job.now.raster (seen chain.now))) }
+        (IsListFault (list.old.visits.items ++ outline_visits job.now.fields.raster (seen chain.now))) }
 {
     add_points(job, &chain.points, list)?;
     if !chain.closed {
@@ -138,10 +130,10 @@ fn add_chain(job: &Job, chain: &Chain, list: &mut VisitList) -> Result<(), PathF
 fn add_points(job: &Job, points: &[Pt3], list: &mut VisitList) -> Result<(), PathFault>
     ensures ok { OnOk result
         (list.new.visits.items ≡ list.old.visits.items
-        ++ map_list (point_visit job.now.raster) points.now) }
+        ++ map_list (point_visit job.now.fields.raster) points.now) }
     ensures fault { IfErr result
         (IsListFault (list.old.visits.items
-        ++ map_list (point_visit job.now.raster) points.now)) }
+        ++ map_list (point_visit job.now.fields.raster) points.now)) }
 {
     for point in points {
         list.push(visit_at(job, *point))?;
@@ -151,10 +143,10 @@ fn add_points(job: &Job, points: &[Pt3], list: &mut VisitList) -> Result<(), Pat
 
 /// The visit at a point of a waterline.
 fn visit_at(job: &Job, at: Pt3) -> Visit
-    ensures { result ≡ point_visit job.now.raster at }
+    ensures { result ≡ point_visit job.now.fields.raster at }
 {
     Visit {
         at,
-        step: job.raster,
+        step: job.fields.raster,
     }
 }

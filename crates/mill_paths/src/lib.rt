@@ -1,6 +1,6 @@
 //! The paths of a plan: the places that the cutter comes to, in their order.
 //!
-//! It stands on mill_job, mill_drop, mill_level and mill_links. The visits of roughing, of
+//! It stands on `mill_job`, `mill_drop`, `mill_level` and `mill_links`. The visits of roughing, of
 //! waterlines and of finishing are exactly those of `specs/Visits`, each free of the part, whether
 //! a [`PathCrew`] is the threads of a runtime or the calling thread. `specs/Lattices`,
 //! `specs/RowPaths` and `specs/Limits` say over what, in which order and how many; by

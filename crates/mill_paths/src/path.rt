@@ -1,6 +1,5 @@
 ghost use Rattle.std.specs.Prelude.{◌≡◌, ◌<◌, length, option_to_list};
 ghost use Rattle.mill_base.specs.Lattices.{nodes_of, IsMapLattice};
-ghost use Rattle.mill_job.specs.Jobs.{IsJob};
 ghost use Rattle.mill_paths.specs.inner.Paths.{path_height, path_lattice, path_visit};
 
 use crate::lattices::{finish_lattice, rough_lattice};
@@ -19,7 +18,7 @@ pub(crate) enum Path {
 
 /// The lattice that the path goes over.
 pub(crate) fn lattice_of(job: &Job, path: Path) -> Lattice
-    ensures { result ≡ path_lattice job.now path }
+    ensures { result ≡ path_lattice job.now.fields path }
 {
     match path {
         Path::Layer { .. } => rough_lattice(job),
@@ -30,11 +29,11 @@ pub(crate) fn lattice_of(job: &Job, path: Path) -> Lattice
 /// The path's visit at the node of this number, if it comes there. `heights` are the drop heights
 /// at the nodes.
 pub(crate) fn visit_of(job: &Job, heights: &[i32], path: Path, number: u32) -> Option<Visit>
-    requires job_ok { IsJob job.now }
-    requires lattice_ok { IsMapLattice (path_lattice job.now path) }
-    requires heights_ok { length heights.now ≡ length (nodes_of (path_lattice job.now path)) }
-    requires number_ok { number < length (nodes_of (path_lattice job.now path)) }
-    ensures { option_to_list result ≡ path_visit job.now heights.now path number }
+    requires lattice_ok { IsMapLattice (path_lattice job.now.fields path) }
+    requires heights_ok { length heights.now ≡
+        length (nodes_of (path_lattice job.now.fields path)) }
+    requires number_ok { number < length (nodes_of (path_lattice job.now.fields path)) }
+    ensures { option_to_list result ≡ path_visit job.now.fields heights.now path number }
 {
     let z = tip_height(job, path, heights[number as usize])?;
     let lattice = lattice_of(job, path);
@@ -47,17 +46,16 @@ pub(crate) fn visit_of(job: &Job, heights: &[i32], path: Path, number: u32) -> O
 
 /// How high the tip is over a node with this drop height; none where the path doesn't come there.
 pub(crate) fn tip_height(job: &Job, path: Path, drop: i32) -> Option<i32>
-    requires { IsJob job.now }
-    ensures { result ≡ path_height job.now path drop }
+    ensures { result ≡ path_height job.now.fields path drop }
 {
     match path {
         Path::Layer { z } => {
-            let least = i64::from(drop) + i64::from(job.rough_stock);
+            let least = i64::from(drop) + i64::from(job.fields.rough_stock);
             if least <= i64::from(z) { Some(z) } else { None }
         }
         Path::Finish => {
-            if drop < job.top - job.lift {
-                Some(drop + job.lift)
+            if drop < job.fields.top - job.fields.lift {
+                Some(drop + job.fields.lift)
             } else {
                 None
             }

@@ -2,8 +2,7 @@
 ghost use Rattle.std.specs.Prelude.{◌≡◌, ◌≤◌, ◌<◌, pos, length, map as map_list, IfOk};
 ghost use Rattle.mill_base.specs.Lattices.{lattice_ys, node_count};
 ghost use Rattle.mill_base.specs.declared.limits.TheConstants.{MAX_NODES};
-ghost use Rattle.mill_cells.specs.Sorted.{sorted_of};
-ghost use Rattle.mill_job.specs.Jobs.{IsFrom, IsJob};
+ghost use Rattle.mill_job.specs.Jobs.{IsFrom};
 ghost use Rattle.mill_job.specs.declared.limits.TheConstants.{MAX_DISTANCE};
 ghost use Rattle.mill_paths.specs.Lattices.{finish_lattice as finish_lattice_of};
 ghost use Rattle.mill_paths.specs.RowPaths.{AreTurnedPaths, IsTurnedPath, row_y};
@@ -12,10 +11,9 @@ ghost use Rattle.mill_paths.specs.inner.Rows.{IsRowTask};
 
 use crate::lattices::finish_lattice;
 use mill_base::{Box2, Pt3, WantOfMemory};
-use mill_cells::Cells;
 use mill_drop::path_drop;
 use mill_job::Job;
-use mill_part::Part;
+use mill_part::SortedPart;
 use rayon::prelude::*;
 use std::alloc::Global;
 use std::ops::Range;
@@ -27,26 +25,25 @@ pub(crate) fn paths_by_threads<R: Threads + Sync>(
     rt: &R,
     alloc: Global,
     job: &Job,
-    part: &Part,
-    cells: &Cells,
+    part: &SortedPart,
     tol: i32,
     rows: Range<u32>,
 ) -> Result<Vec<Vec<Pt3>>, WantOfMemory>
-    requires job_ok { IsJob job.now }
-    requires cells_ok { cells.now ≡ sorted_of part.now }
     requires tol_ok { IsFrom (pos 0) MAX_DISTANCE tol }
-    requires few { node_count (finish_lattice_of job.now) ≤ MAX_NODES }
+    requires few { node_count (finish_lattice_of job.now.fields) ≤ MAX_NODES }
     requires order { rows.start ≤ rows.end }
-    requires rows_ok { rows.end ≤ length (lattice_ys (finish_lattice_of job.now)) }
-    ensures { IfOk result (λ paths. AreTurnedPaths job.now part.now tol rows.start rows.end (map_list (λ path. path.items) paths.items)) }
+    requires rows_ok { rows.end ≤ length (lattice_ys (finish_lattice_of job.now.fields)) }
+    ensures { IfOk result (λ paths. AreTurnedPaths job.now.fields part.now tol rows.start
+        rows.end (map_list (λ path. path.items) paths.items)) }
 {
     rows.into_par_iter()
         .with_min_len(1)
         .map(
             |row: u32| -> Result<Vec<Pt3>, WantOfMemory>
-                requires { IsRowTask job.now part.now cells.now tol row }
-                ensures { IfOk result (λ path. IsTurnedPath job.entry.now part.entry.now tol row path.items) }
-            { path_of(alloc, job, part, cells, tol, row) },
+                requires { IsRowTask job.now.fields tol row }
+                ensures { IfOk result (λ path. IsTurnedPath job.entry.now.fields part.entry.now
+                    tol row path.items) }
+            { path_of(alloc, job, part, tol, row) },
         )
         .collect::<Result<Vec<Vec<Pt3>>, WantOfMemory>>(rt, alloc)?
 }
@@ -56,22 +53,20 @@ pub(crate) fn paths_by_threads<R: Threads + Sync>(
 pub(crate) fn paths_alone(
     alloc: Global,
     job: &Job,
-    part: &Part,
-    cells: &Cells,
+    part: &SortedPart,
     tol: i32,
     rows: Range<u32>,
 ) -> Result<Vec<Vec<Pt3>>, WantOfMemory>
-    requires job_ok { IsJob job.now }
-    requires cells_ok { cells.now ≡ sorted_of part.now }
     requires tol_ok { IsFrom (pos 0) MAX_DISTANCE tol }
-    requires few { node_count (finish_lattice_of job.now) ≤ MAX_NODES }
+    requires few { node_count (finish_lattice_of job.now.fields) ≤ MAX_NODES }
     requires order { rows.start ≤ rows.end }
-    requires rows_ok { rows.end ≤ length (lattice_ys (finish_lattice_of job.now)) }
-    ensures { IfOk result (λ paths. AreTurnedPaths job.now part.now tol rows.start rows.end (map_list (λ path. path.items) paths.items)) }
+    requires rows_ok { rows.end ≤ length (lattice_ys (finish_lattice_of job.now.fields)) }
+    ensures { IfOk result (λ paths. AreTurnedPaths job.now.fields part.now tol rows.start
+        rows.end (map_list (λ path. path.items) paths.items)) }
 {
     let mut paths = Vec::new(alloc);
     for row in rows.start..rows.end {
-        let path = path_of(alloc, job, part, cells, tol, row)?;
+        let path = path_of(alloc, job, part, tol, row)?;
         paths.push(path)?;
     }
     Ok(paths)
@@ -82,18 +77,17 @@ pub(crate) fn paths_alone(
 fn path_of(
     alloc: Global,
     job: &Job,
-    part: &Part,
-    cells: &Cells,
+    part: &SortedPart,
     tol: i32,
     row: u32,
 ) -> Result<Vec<Pt3>, WantOfMemory>
-    requires { IsRowTask job.now part.now cells.now tol row }
-    ensures { IfOk result (λ path. IsTurnedPath job.now part.now tol row path.items) }
+    requires { IsRowTask job.now.fields tol row }
+    ensures { IfOk result (λ path. IsTurnedPath job.now.fields part.now tol row path.items) }
 {
     let y = row_place(job, row);
     let tool = job.tool();
-    let Box2 { x0, x1, .. } = job.area;
-    let mut path = path_drop(alloc, part, cells, &tool, y, x0, x1, job.floor, tol)?;
+    let Box2 { x0, x1, .. } = job.fields.area;
+    let mut path = path_drop(alloc, part, &tool, y, x0, x1, job.fields.floor, tol)?;
     turn(row, &mut path);
     Ok(path)
 }
@@ -110,10 +104,9 @@ fn turn(row: u32, path: &mut Vec<Pt3>)
 
 /// Where the row of this number lies in y.
 fn row_place(job: &Job, row: u32) -> i32
-    requires job_ok { IsJob job.now }
-    requires few { node_count (finish_lattice_of job.now) ≤ MAX_NODES }
-    requires row_ok { row < length (lattice_ys (finish_lattice_of job.now)) }
-    ensures { result ≡ row_y job.now row }
+    requires few { node_count (finish_lattice_of job.now.fields) ≤ MAX_NODES }
+    requires row_ok { row < length (lattice_ys (finish_lattice_of job.now.fields)) }
+    ensures { result ≡ row_y job.now.fields row }
 {
     let lattice = finish_lattice(job);
     let (_, y) = lattice.node(row * lattice.node_columns());

@@ -1,9 +1,8 @@
 ghost use Rattle.std.specs.Prelude.{◌≡◌, ◌↔◌, ℕ, ◌<◌, ◌≤◌, ◌++◌, pos, ◌<ℤ◌, length, slice_index_or, All, IfErr, IfOk, IsErrOf, OnOk};
-ghost use Rattle.mill_cells.specs.Sorted.{sorted_of};
 ghost use Rattle.mill_base.specs.Lattices.{node_count, nodes_of, IsLattice, IsMapLattice};
 ghost use Rattle.mill_base.specs.declared.limits.TheConstants.{MAX_NODES};
 ghost use Rattle.mill_drop.specs.Maps.{AreDropHeights};
-ghost use Rattle.mill_job.specs.Jobs.{IsJob, tool_of};
+ghost use Rattle.mill_job.specs.Jobs.{tool_of};
 ghost use Rattle.mill_paths.specs.Lattices.{finish_lattice as finish_lattice_of, rough_lattice as rough_lattice_of};
 ghost use Rattle.mill_paths.specs.Limits.{change_count, most_changes, HasManyNodes, IsHeightsFault, IsListFault};
 ghost use Rattle.mill_paths.specs.Visits.{AreRoughVisits, AreFinishVisits, AreNodeVisits, HaveManyRoughVisits, HaveManyFinishVisits, HaveManyNodeVisits, IsVisit, layer_heights, rough_visits_of};
@@ -18,17 +17,16 @@ use crate::row_visits::row_visits;
 use crate::visit_list::VisitList;
 use crate::zigzag::add_path;
 use mill_base::Lattice;
-use mill_cells::Cells;
 use mill_job::Job;
 use mill_links::Visit;
-use mill_part::Part;
+use mill_part::SortedPart;
 use std::alloc::Global;
 
 /// The visits of a plan's roughing, layer by layer from the top, and on each in zigzag order: at the
 /// layer's height over each node of the rough lattice at which that is at least the rough stock over the
 /// drop height of the job's tool. Without a layer there are none, and the lattice isn't gone over.
 ///
-/// `cells` are those of the part's triangles. The visits are the same whatever the crew.
+/// The visits are the same whatever the crew.
 ///
 /// # Errors
 ///
@@ -40,26 +38,23 @@ pub fn rough_visits<C: PathCrew>(
     crew: &C,
     alloc: Global,
     job: &Job,
-    part: &Part,
-    cells: &Cells,
+    part: &SortedPart,
 ) -> Result<Vec<Visit>, PathFault>
-    requires crew_ok { C.ready }
-    requires job_ok { IsJob job.now }
-    requires cells_ok { cells.now ≡ sorted_of part.now }
-    ensures list { IfOk result (λ visits. AreRoughVisits job.now part.now visits.items) }
-    ensures each { IfOk result (λ visits. All (IsVisit job.now part.now) visits.items) }
+    requires { C.ready }
+    ensures list { IfOk result (λ visits. AreRoughVisits job.now.fields part.now visits.items) }
+    ensures each { IfOk result (λ visits. All (IsVisit job.now.fields part.now) visits.items) }
     ensures few { IfOk result (λ visits. change_count visits.items ≤ most_changes) }
     ensures nodes { (nodes : ℕ) → IsErrOf result (TooManyNodes nodes)
-        ↔ (((pos 0) <ℤ job.now.layer) × HasManyNodes (rough_lattice_of job.now) nodes) }
+        ↔ (((pos 0) <ℤ job.now.fields.layer) × HasManyNodes (rough_lattice_of job.now.fields) nodes) }
     ensures visits { IsErrOf result TooManyVisits
-        → ((pos 0) <ℤ job.now.layer) × HaveManyRoughVisits job.now part.now }
-    ensures many { OnOk result (¬ HaveManyRoughVisits job.now part.now) }
+        → ((pos 0) <ℤ job.now.fields.layer) × HaveManyRoughVisits job.now.fields part.now }
+    ensures many { OnOk result (¬ HaveManyRoughVisits job.now.fields part.now) }
 {
-    if job.layer == 0 {
+    if job.fields.layer == 0 {
         return Ok(Vec::new(alloc));
     }
     let lattice = rough_lattice(job);
-    let heights = drop_heights(crew, alloc, job, part, cells, &lattice)?;
+    let heights = drop_heights(crew, alloc, job, part, &lattice)?;
     let mut list = VisitList::new(alloc);
     add_layers(job, &heights, &mut list)?;
     Ok(list.into_visits())
@@ -73,7 +68,7 @@ pub fn rough_visits<C: PathCrew>(
 /// ascending in the rows 0, 2, 4 and so on, and descending in the others. The step of such a visit is the
 /// way to it in x from the point before it in the row, and at least the raster.
 ///
-/// `cells` are those of the part's triangles. The visits are the same whatever the crew.
+/// The visits are the same whatever the crew.
 ///
 /// # Errors
 ///
@@ -84,23 +79,20 @@ pub fn finish_visits<C: PathCrew>(
     crew: &C,
     alloc: Global,
     job: &Job,
-    part: &Part,
-    cells: &Cells,
+    part: &SortedPart,
 ) -> Result<Vec<Visit>, PathFault>
-    requires crew_ok { C.ready }
-    requires job_ok { IsJob job.now }
-    requires cells_ok { cells.now ≡ sorted_of part.now }
-    ensures list { IfOk result (λ visits. AreFinishVisits job.now part.now visits.items) }
-    ensures each { IfOk result (λ visits. All (IsVisit job.now part.now) visits.items) }
+    requires { C.ready }
+    ensures list { IfOk result (λ visits. AreFinishVisits job.now.fields part.now visits.items) }
+    ensures each { IfOk result (λ visits. All (IsVisit job.now.fields part.now) visits.items) }
     ensures few { IfOk result (λ visits. change_count visits.items ≤ most_changes) }
     ensures nodes { (nodes : ℕ) → IsErrOf result (TooManyNodes nodes)
-        ↔ HasManyNodes (finish_lattice_of job.now) nodes }
-    ensures visits { IsErrOf result TooManyVisits → HaveManyFinishVisits job.now part.now }
-    ensures many { OnOk result (¬ HaveManyFinishVisits job.now part.now) }
+        ↔ HasManyNodes (finish_lattice_of job.now.fields) nodes }
+    ensures visits { IsErrOf result TooManyVisits → HaveManyFinishVisits job.now.fields part.now }
+    ensures many { OnOk result (¬ HaveManyFinishVisits job.now.fields part.now) }
 {
-    match job.path_tol {
-        None => node_visits(crew, alloc, job, part, cells),
-        Some(tol) => row_visits(crew, alloc, job, part, cells, tol),
+    match job.fields.path_tol {
+        None => node_visits(crew, alloc, job, part),
+        Some(tol) => row_visits(crew, alloc, job, part, tol),
     }
 }
 
@@ -109,20 +101,17 @@ fn node_visits<C: PathCrew>(
     crew: &C,
     alloc: Global,
     job: &Job,
-    part: &Part,
-    cells: &Cells,
+    part: &SortedPart,
 ) -> Result<Vec<Visit>, PathFault>
-    requires crew_ok { C.ready }
-    requires job_ok { IsJob job.now }
-    requires cells_ok { cells.now ≡ sorted_of part.now }
-    ensures list { IfOk result (λ visits. AreNodeVisits job.now part.now visits.items) }
+    requires { C.ready }
+    ensures list { IfOk result (λ visits. AreNodeVisits job.now.fields part.now visits.items) }
     ensures few { IfOk result (λ visits. change_count visits.items ≤ most_changes) }
-    ensures nodes { IfOk result (λ _. node_count (finish_lattice_of job.now) ≤ MAX_NODES) }
+    ensures nodes { IfOk result (λ _. node_count (finish_lattice_of job.now.fields) ≤ MAX_NODES) }
     ensures fault { IfErr result
-        (IsFinishFault (finish_lattice_of job.now) (HaveManyNodeVisits job.now part.now)) }
+        (IsFinishFault (finish_lattice_of job.now.fields) (HaveManyNodeVisits job.now.fields part.now)) }
 {
     let lattice = finish_lattice(job);
-    let heights = drop_heights(crew, alloc, job, part, cells, &lattice)?;
+    let heights = drop_heights(crew, alloc, job, part, &lattice)?;
     let mut list = VisitList::new(alloc);
     add_path(job, &heights, Path::Finish, &mut list)?;
     Ok(list.into_visits())
@@ -133,33 +122,30 @@ fn drop_heights<C: PathCrew>(
     crew: &C,
     alloc: Global,
     job: &Job,
-    part: &Part,
-    cells: &Cells,
+    part: &SortedPart,
     lattice: &Lattice,
 ) -> Result<Vec<i32>, PathFault>
     requires crew_ok { C.ready }
-    requires job_ok { IsJob job.now }
-    requires cells_ok { cells.now ≡ sorted_of part.now }
     requires lattice_ok { IsLattice lattice.now }
-    ensures heights { IfOk result (λ heights. AreDropHeights (tool_of job.now) part.now job.now.floor lattice.now heights.items) }
+    ensures heights { IfOk result (λ heights. AreDropHeights (tool_of job.now.fields) part.now
+        job.now.fields.floor lattice.now heights.items) }
     ensures lattice_ok { IfOk result (λ _. IsMapLattice lattice.now) }
     ensures fault { IfErr result (IsHeightsFault lattice.now) }
 {
     check_nodes(lattice)?;
     let tool = job.tool();
-    Ok(crew.drop_map(alloc, part, cells, &tool, lattice, job.floor)?)
+    Ok(crew.drop_map(alloc, part, &tool, lattice, job.fields.floor)?)
 }
 
 /// Adds the visits of all layers. `heights` are the drop heights at the nodes of the rough lattice.
 fn add_layers(job: &Job, heights: &[i32], list: &mut VisitList) -> Result<(), PathFault>
-    requires job_ok { IsJob job.now }
-    requires layer_ok { (pos 0) <ℤ job.now.layer }
-    requires lattice_ok { IsMapLattice (rough_lattice_of job.now) }
-    requires heights_ok { length heights.now ≡ length (nodes_of (rough_lattice_of job.now)) }
+    requires layer_ok { (pos 0) <ℤ job.now.fields.layer }
+    requires lattice_ok { IsMapLattice (rough_lattice_of job.now.fields) }
+    requires heights_ok { length heights.now ≡ length (nodes_of (rough_lattice_of job.now.fields)) }
     ensures ok { OnOk result
-        (list.new.visits.items ≡ list.old.visits.items ++ rough_visits_of job.now heights.now) }
+        (list.new.visits.items ≡ list.old.visits.items ++ rough_visits_of job.now.fields heights.now) }
     ensures fault { IfErr result
-        (IsListFault (list.old.visits.items ++ rough_visits_of job.now heights.now)) }
+        (IsListFault (list.old.visits.items ++ rough_visits_of job.now.fields heights.now)) }
 {
     for number in 0..layer_count(job) {
         let z = layer_height(job, number);
@@ -170,20 +156,18 @@ fn add_layers(job: &Job, heights: &[i32], list: &mut VisitList) -> Result<(), Pa
 
 /// How many layers roughing takes off that end over the floor.
 fn layer_count(job: &Job) -> u32
-    requires job_ok { IsJob job.now }
-    requires layer_ok { (pos 0) <ℤ job.now.layer }
-    ensures { result ≡ length (layer_heights job.now) }
+    requires { (pos 0) <ℤ job.now.fields.layer }
+    ensures { result ≡ length (layer_heights job.now.fields) }
 {
-    job.top.abs_diff(job.floor).saturating_sub(1) / job.layer.unsigned_abs()
+    job.fields.top.abs_diff(job.fields.floor).saturating_sub(1) / job.fields.layer.unsigned_abs()
 }
 
 /// The height at which the layer of this number ends, counted from 0 at the top, in units.
 fn layer_height(job: &Job, number: u32) -> i32
-    requires job_ok { IsJob job.now }
-    requires layer_ok { (pos 0) <ℤ job.now.layer }
-    requires number_ok { number < length (layer_heights job.now) }
-    ensures { result ≡ slice_index_or (layer_heights job.now) number (pos 0) }
+    requires layer_ok { (pos 0) <ℤ job.now.fields.layer }
+    requires number_ok { number < length (layer_heights job.now.fields) }
+    ensures { result ≡ slice_index_or (layer_heights job.now.fields) number (pos 0) }
 {
-    let lowered = (number + 1) * job.layer.unsigned_abs();
-    job.top - lowered as i32
+    let lowered = (number + 1) * job.fields.layer.unsigned_abs();
+    job.fields.top - lowered as i32
 }

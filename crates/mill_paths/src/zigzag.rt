@@ -1,7 +1,6 @@
 ghost use Rattle.std.specs.Prelude.{◌≡◌, ◌+◌, ◌*◌, ◌<◌, ◌≤◌, ◌++◌, length, slice_index, IfErr, OnOk};
 ghost use Rattle.std.specs.List.{flat_map};
 ghost use Rattle.mill_base.specs.Lattices.{lattice_xs, lattice_ys, nodes_of, IsMapLattice};
-ghost use Rattle.mill_job.specs.Jobs.{IsJob};
 ghost use Rattle.mill_paths.specs.Lattices.{zigzag_row};
 ghost use Rattle.mill_paths.specs.Limits.{IsListFault};
 ghost use Rattle.mill_base.specs.declared.limits.TheConstants.{MAX_NODES};
@@ -20,13 +19,12 @@ pub(crate) fn add_path(
     path: Path,
     list: &mut VisitList,
 ) -> Result<(), PathFault>
-    requires job_ok { IsJob job.now }
-    requires lattice_ok { IsMapLattice (path_lattice job.now path) }
-    requires heights_ok { length heights.now ≡ length (nodes_of (path_lattice job.now path)) }
+    requires lattice_ok { IsMapLattice (path_lattice job.now.fields path) }
+    requires heights_ok { length heights.now ≡ length (nodes_of (path_lattice job.now.fields path)) }
     ensures ok { OnOk result
-        (list.new.visits.items ≡ list.old.visits.items ++ path_visits job.now heights.now path) }
+        (list.new.visits.items ≡ list.old.visits.items ++ path_visits job.now.fields heights.now path) }
     ensures fault { IfErr result
-        (IsListFault (list.old.visits.items ++ path_visits job.now heights.now path)) }
+        (IsListFault (list.old.visits.items ++ path_visits job.now.fields heights.now path)) }
 {
     let lattice = lattice_of(job, path);
     let columns = lattice.node_columns();
@@ -45,17 +43,16 @@ fn add_row(
     row: u32,
     list: &mut VisitList,
 ) -> Result<(), PathFault>
-    requires job_ok { IsJob job.now }
-    requires lattice_ok { IsMapLattice (path_lattice job.now path) }
-    requires heights_ok { length heights.now ≡ length (nodes_of (path_lattice job.now path)) }
-    requires columns_ok { columns ≡ length (lattice_xs (path_lattice job.now path)) }
-    requires row_ok { row < length (lattice_ys (path_lattice job.now path)) }
+    requires lattice_ok { IsMapLattice (path_lattice job.now.fields path) }
+    requires heights_ok { length heights.now ≡ length (nodes_of (path_lattice job.now.fields path)) }
+    requires columns_ok { columns ≡ length (lattice_xs (path_lattice job.now.fields path)) }
+    requires row_ok { row < length (lattice_ys (path_lattice job.now.fields path)) }
     ensures ok { OnOk result
         (list.new.visits.items ≡ list.old.visits.items
-        ++ flat_map (path_visit job.now heights.now path) (zigzag_row columns row)) }
+        ++ flat_map (path_visit job.now.fields heights.now path) (zigzag_row columns row)) }
     ensures fault { IfErr result
         (IsListFault (list.old.visits.items
-        ++ flat_map (path_visit job.now heights.now path) (zigzag_row columns row))) }
+        ++ flat_map (path_visit job.now.fields heights.now path) (zigzag_row columns row))) }
 {
     for place in 0..columns {
         add_node(job, heights, path, node_number(columns, row, place), list)?;
@@ -71,15 +68,14 @@ fn add_node(
     number: u32,
     list: &mut VisitList,
 ) -> Result<(), PathFault>
-    requires job_ok { IsJob job.now }
-    requires lattice_ok { IsMapLattice (path_lattice job.now path) }
-    requires heights_ok { length heights.now ≡ length (nodes_of (path_lattice job.now path)) }
-    requires number_ok { number < length (nodes_of (path_lattice job.now path)) }
+    requires lattice_ok { IsMapLattice (path_lattice job.now.fields path) }
+    requires heights_ok { length heights.now ≡ length (nodes_of (path_lattice job.now.fields path)) }
+    requires number_ok { number < length (nodes_of (path_lattice job.now.fields path)) }
     ensures ok { OnOk result
         (list.new.visits.items ≡ list.old.visits.items
-        ++ path_visit job.now heights.now path number) }
+        ++ path_visit job.now.fields heights.now path number) }
     ensures fault { IfErr result
-        (IsListFault (list.old.visits.items ++ path_visit job.now heights.now path number)) }
+        (IsListFault (list.old.visits.items ++ path_visit job.now.fields heights.now path number)) }
 {
     match visit_of(job, heights, path, number) {
         Some(visit) => list.push(visit),

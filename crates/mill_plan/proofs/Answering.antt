@@ -3,9 +3,9 @@ use Rattle.std.specs.Prelude.{◌≡◌, ℕ, ◌<◌, ◌≤◌, ℤ, List, len
 use Rattle.std.proofs.Common.{refl, sym, ap, ◌∙◌, subst, arith}
 use Rattle.mill_base.specs.declared.motion.Move.{Move}
 use Rattle.mill_base.specs.declared.points.Tri.{Tri}
-use Rattle.mill_job.specs.declared.job.Job.{Job}
+use Rattle.mill_job.specs.declared.fields.JobFields.{JobFields}
 use Rattle.mill_paths.specs.Unique.{OnePlan}
-use Rattle.mill_post.specs.Texts.{program_text}
+use Rattle.mill_ngc.specs.Writing.{program_text}
 use Rattle.mill_sweep.specs.declared.leaf.Leaf.{Leaf}
 use Rattle.mill_verify.specs.Verdicts.{IsVerdict, OneVerdict}
 use Rattle.mill_verify.specs.declared.verdict.Verdict.{Verdict}
@@ -38,7 +38,7 @@ left_or_held j i m k l t leaf verdict = cc
 not_both : (n : ℕ) → n ≤ 1000000 → 1000000 < n → ⊥
 not_both n few many = omega (few, many, arith)
 
-module _ (one : OnePlan) (verdict : OneVerdict) (job : Job) (part : List Tri) where
+module _ (one : OnePlan) (verdict : OneVerdict) (job : JobFields) (part : List Tri) where
   -- a plan isn't too long and short enough
   not_long : (moves : List Move) → HasPlan job part moves → IsOverMoves job part → ⊥
   not_long moves plan over = not_both (length moves) plan.few (over.many moves plan.is)

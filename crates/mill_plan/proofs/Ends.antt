@@ -9,7 +9,7 @@ use Rattle.mill_base.specs.declared.points.Pt3.{Pt3}
 use Rattle.mill_base.specs.declared.points.Tri.{Tri}
 use Rattle.mill_job.specs.Columns.{home}
 use Rattle.mill_job.specs.Jobs.{IsJob}
-use Rattle.mill_job.specs.declared.job.Job.{Job}
+use Rattle.mill_job.specs.declared.fields.JobFields.{JobFields}
 use Rattle.mill_links.specs.Links.{IsLink, at_height, climb, cross, descend, feed_to, peck_count, pecks, plunge, way_home}
 use Rattle.mill_links.specs.Safety.{IsEndOf}
 use Rattle.mill_links.specs.Tours.{AreLinks, last_place}
@@ -38,7 +38,7 @@ pecks_end (suc n) depth at z =
 abbrev IsOnTheWay : Pt3 → List Move → Pt3 → Type 0
 IsOnTheWay from moves p = (p ≡ from) ⊎ IsEndOf moves p
 
-module _ (job : Job) (part : List Tri) where
+module _ (job : JobFields) (part : List Tri) where
   link_ends : (done : List Move) (from : Pt3) (visit : Visit) (moves : List Move) → IsLink job part done from visit moves → IsOnTheWay from moves visit.at
   link_ends done from visit moves (inl stay) = inl stay.there
   link_ends done from visit moves (inr (inl straight)) =
@@ -76,13 +76,13 @@ behind P [] ys all = all
 behind P (x ∷ xs) ys all = behind P xs ys (All-tail P x (xs ++ ys) all)
 
 -- none of them is home, which isn't under the top
-not_home : (job : Job) (part : List Tri) (visit : Visit) → IsJob job → IsVisit job part visit → visit.at ≡ home job → ⊥
+not_home : (job : JobFields) (part : List Tri) (visit : Visit) → IsJob job → IsVisit job part visit → visit.at ≡ home job → ⊥
 not_home job part visit ok is there = clash visit.at.z job.top job.clear is.under_top ok.over_stock (ap (λ (p : Pt3). p.z) there)
   where
     clash : (z top clear : ℤ) → z <ℤ top → top ≤ℤ clear → z ≡ clear → ⊥
     clash z top clear under over e = omega (under, over, e, arith, ints)
 
-pub finish_ends : (job : Job) (part : List Tri) (moves : List Move) (plan : IsPlan job part moves) → IsJob job → All (λ (v : Visit). IsEndOf moves v.at) plan.are.finish
+pub finish_ends : (job : JobFields) (part : List Tri) (moves : List Move) (plan : IsPlan job part moves) → IsJob job → All (λ (v : Visit). IsEndOf moves v.at) plan.are.finish
 finish_ends job part moves plan ok =
     let are = plan.are in
     let links : List Move = flat_map (λ (link : List Move). link) plan.tour.links in

@@ -6,7 +6,7 @@ use Rattle.std.proofs.lemmas.List.{get_or_default}
 use Rattle.std.proofs.lemmas.Slice.Zip.{all_zipped_more}
 use Rattle.mill_base.specs.declared.points.Pt3.{Pt3}
 use Rattle.mill_base.specs.declared.points.Tri.{Tri}
-use Rattle.mill_job.specs.declared.job.Job.{Job}
+use Rattle.mill_job.specs.declared.fields.JobFields.{JobFields}
 use Rattle.mill_links.specs.Links.{SaysClear}
 use Rattle.mill_links.specs.declared.visit.Visit.{Visit}
 use Rattle.mill_paths.proofs.Gathered.{numbers_more}
@@ -42,7 +42,7 @@ told_more R k ys zs y before here more =
     numbers = ap (range_with_len 0) next ∙ numbers_more 0 k ∙ ap (λ (m : ℕ). range_with_len 0 k ++ m ∷ []) plain
 
 -- what the answers say of the visit of number k, with the place where the cutter is then
-pub says_at : (job : Job) (part : List Tri) (visits : List Visit) (answers : List Bool) (k : ℕ) (d : Visit) (e : Bool) (place : Pt3) → SayClear job part visits answers
+pub says_at : (job : JobFields) (part : List Tri) (visits : List Visit) (answers : List Bool) (k : ℕ) (d : Visit) (e : Bool) (place : Pt3) → SayClear job part visits answers
     → k < length visits → place ≡ place_before job visits k → SaysClear job part place (slice_index_or visits k d) (slice_index_or answers k e)
 says_at job part visits answers k d e place say inside there =
     subst (λ (p : Pt3). SaysClear job part p (slice_index_or visits k d) (slice_index_or answers k e)) (sym there)
@@ -53,7 +53,7 @@ says_at job part visits answers k d e place say inside there =
     plain n = omega arith
 
 -- what an answer says of the visit of a number, whatever stands past the list's end
-pub says_to : (job : Job) (part : List Tri) (visits : List Visit) (number : ℕ) (d : Visit) (place : Pt3) (answer : Bool) → number < length visits
+pub says_to : (job : JobFields) (part : List Tri) (visits : List Visit) (number : ℕ) (d : Visit) (place : Pt3) (answer : Bool) → number < length visits
     → place ≡ place_before job visits number → SaysClear job part place (slice_index_or visits number d) answer → SaysClearTo job part visits number answer
 says_to job part visits number d place answer inside there says =
     subst (λ (p : Pt3). SaysClear job part p (slice_index_or visits number no_visit) answer) there

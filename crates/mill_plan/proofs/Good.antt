@@ -12,7 +12,7 @@ use Rattle.mill_base.specs.declared.points.Pt3.{Pt3}
 use Rattle.mill_base.specs.declared.points.Tri.{Tri}
 use Rattle.mill_base.specs.declared.tool.Holder.{Holder as OneHolder}
 use Rattle.mill_job.specs.Columns.{IsColumn, column_x, column_y}
-use Rattle.mill_job.specs.declared.job.Job.{Job}
+use Rattle.mill_job.specs.declared.fields.JobFields.{JobFields}
 use Rattle.mill_gouge.specs.Gouges.{HolderPassesPart}
 use Rattle.mill_sweep.specs.Halving.{PassesPoint}
 use Rattle.mill_sweep.specs.Holders.{HolderPassesPoint}
@@ -27,17 +27,17 @@ use Rattle.mill_verify.specs.declared.verdict.Reason.TheVariants.{Floor, Gouge, 
 use Rattle.mill_plan.specs.Laws.{IsOfStock}
 
 -- move k passes each test that comes before the holder's against the stock
-pub record PassesFirst (job : Job) (part : List Tri) (moves : List Move) (k : ℕ) : Type 0 where
+pub record PassesFirst (job : JobFields) (part : List Tri) (moves : List Move) (k : ℕ) : Type 0 where
   pub floor : IsOverFloor job moves k
   pub clears : ClearsPart job part moves k
   pub holder : HolderClearsPart job part moves k
   pub stock : ClearsStock job moves k
 
 -- so does each move
-abbrev pub AllPassFirst : Job → List Tri → List Move → Type 0
+abbrev pub AllPassFirst : JobFields → List Tri → List Move → Type 0
 AllPassFirst job part moves = (k : ℕ) → k < length moves → PassesFirst job part moves k
 
-module _ (job : Job) (part : List Tri) where
+module _ (job : JobFields) (part : List Tri) where
   -- the move of each number is safe after those before it
   safe_at : (done ms : List Move) (k : ℕ) → AreSafe job part done ms → k < length ms → IsSafeMove job part (done ++ take k ms) (move_at ms k)
   safe_at done [] k safe inside = absurd (omega arith)
@@ -91,11 +91,11 @@ module _ (job : Job) (part : List Tri) where
   follow from to moves go = connected from to moves go.connect
 
 -- a good move ends at or over the floor
-pub floor_at_end : (job : Job) (part : List Tri) (moves : List Move) (m : Move) → GoodBefore job part moves (length moves) → Contains moves m → job.floor ≤ℤ m.to.z
+pub floor_at_end : (job : JobFields) (part : List Tri) (moves : List Move) (m : Move) → GoodBefore job part moves (length moves) → Contains moves m → job.floor ≤ℤ m.to.z
 floor_at_end job part moves m good member =
     subst (λ (n : Move). job.floor ≤ℤ n.to.z) (get_or_default moves member.0 _ m member.1 ∙ member.2) (good member.0 member.1).floor.«end»
 
-module _ (job : Job) (part : List Tri) (moves : List Move) (all : AllPassFirst job part moves) where
+module _ (job : JobFields) (part : List Tri) (moves : List Move) (all : AllPassFirst job part moves) where
   -- such a move isn't stopped by a column
   not_stopped : (kind : Kind) (k j i : ℕ) (leaf : Leaf) → FailsStock job part moves kind k j i leaf → ⊥
   not_stopped kind k j i leaf fails =

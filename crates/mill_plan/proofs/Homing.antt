@@ -12,7 +12,7 @@ use Rattle.mill_base.specs.declared.points.Pt3.{Pt3}
 use Rattle.mill_base.proofs.Ranges.{within_of_unit}
 use Rattle.mill_job.specs.Columns.{home}
 use Rattle.mill_job.specs.Jobs.{IsJob}
-use Rattle.mill_job.specs.declared.job.Job.{Job}
+use Rattle.mill_job.specs.declared.fields.JobFields.{JobFields}
 use Rattle.mill_links.specs.Links.{at_height, climb, cross, is_over_place, rapid_to, way_home}
 
 -- what stands past the old moves is what was added to them
@@ -35,7 +35,7 @@ both a b first rest m member = elim (Contains-append_cases a b m member) [ inl b
 at_level : (p : Pt3) (z : ℤ) → IsInRange p → Within MAX_COORDINATE z → IsInRange (at_height p z)
 at_level p z ok high = record { x_ok = ok.x_ok; y_ok = ok.y_ok; z_ok = high }
 
-module _ (job : Job) (from : Pt3) (clear_ok : Within MAX_COORDINATE job.clear) (from_ok : IsInRange from) where
+module _ (job : JobFields) (from : Pt3) (clear_ok : Within MAX_COORDINATE job.clear) (from_ok : IsInRange from) where
   climbs : (t : Bool) → MovesInRange (if t then rapid_to from (at_height from job.clear) ∷ [] else [])
   climbs true = one (rapid_to from (at_height from job.clear)) (record { from_ok = from_ok; to_ok = at_level from job.clear from_ok clear_ok })
   climbs false = none
@@ -46,7 +46,7 @@ module _ (job : Job) (from : Pt3) (clear_ok : Within MAX_COORDINATE job.clear) (
       one (rapid_to (at_height from job.clear) (at_height at job.clear))
       (record { from_ok = at_level from job.clear from_ok clear_ok; to_ok = at_level at job.clear at_ok clear_ok })
 
-pub way_home_ranged : (job : Job) (from : Pt3) → IsJob job → IsInRange from → IsInRange (home job) → MovesInRange (way_home job from)
+pub way_home_ranged : (job : JobFields) (from : Pt3) → IsJob job → IsInRange from → IsInRange (home job) → MovesInRange (way_home job from)
 way_home_ranged job from ok from_ok home_ok =
     let clear_ok = within_of_unit job.unit job.clear ok.clear_ok in
     both (climb job from) (cross job from (home job)) (climbs job from clear_ok from_ok (int_lt from.z job.clear))

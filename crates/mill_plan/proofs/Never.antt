@@ -5,7 +5,7 @@ use Rattle.mill_base.specs.declared.points.Tri.{Tri}
 use Rattle.mill_base.specs.Covers.{IsUnder}
 use Rattle.mill_job.specs.Columns.{home}
 use Rattle.mill_job.specs.Jobs.{IsJob}
-use Rattle.mill_job.specs.declared.job.Job.{Job}
+use Rattle.mill_job.specs.declared.fields.JobFields.{JobFields}
 use Rattle.mill_links.specs.Safety.{GoSafely}
 use Rattle.mill_paths.specs.Plans.{IsPlan}
 use Rattle.mill_paths.specs.Unique.{RoundIsSafe}
@@ -14,7 +14,7 @@ use Rattle.mill_plan.specs.Laws.{PlanNeverFails}
 use Rattle.mill_plan.proofs.Good.{only_of_stock, pass_first}
 use Rattle.mill_plan.proofs.Planning.{each_joined}
 
-goes : RoughVisitsAreFree → LevelVisitsAreFree → FinishVisitsAreFree → RoundIsSafe → (job : Job) (part : List Tri) (moves : List Move) → IsJob job → IsUnder part job.top
+goes : RoughVisitsAreFree → LevelVisitsAreFree → FinishVisitsAreFree → RoundIsSafe → (job : JobFields) (part : List Tri) (moves : List Move) → IsJob job → IsUnder part job.top
     → IsPlan job part moves → GoSafely job part [] (home job) moves (home job)
 goes rough_free level_free finish_free round job part moves ok under plan =
     let are = plan.are in

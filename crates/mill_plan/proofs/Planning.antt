@@ -8,7 +8,7 @@ use Rattle.mill_base.specs.declared.motion.Move.{Move}
 use Rattle.mill_base.specs.declared.points.Tri.{Tri}
 use Rattle.mill_job.specs.Columns.{home}
 use Rattle.mill_job.specs.Jobs.{IsJob}
-use Rattle.mill_job.specs.declared.job.Job.{Job}
+use Rattle.mill_job.specs.declared.fields.JobFields.{JobFields}
 use Rattle.mill_links.specs.Safety.{GoSafely}
 use Rattle.mill_links.specs.declared.visit.Visit.{Visit}
 use Rattle.mill_paths.specs.Lattices.{finish_lattice, rough_lattice}
@@ -30,7 +30,7 @@ use Rattle.mill_plan.specs.declared.fault.PlanFault.TheVariants.{TooManyNodes, T
 over : (a b c : ℕ) → a < b → b ≤ c → a < c
 over a b c h g = omega (h, g, arith)
 
-module _ (job : Job) (part : List Tri) where
+module _ (job : JobFields) (part : List Tri) where
   -- the three lists of visits, one after the other, are the plan's, and places that it may come to
   pub visits_joined : (rough level finish visits : List Visit) → AreRoughVisits job part rough → AreLevelVisits job part level → AreFinishVisits job part finish
       → visits ≡ rough ++ level ++ finish → ArePlanVisits job part visits
@@ -103,7 +103,7 @@ module _ (job : Job) (part : List Tri) where
   finish_told r path.WantOfMemory is nodes many visits = tt
 
 -- where a round of few moves is made, it is the plan
-pub plan_if_made : (job : Job) (part : List Tri) (visits : List Visit) → HasFewNodes job → ArePlanVisits job part visits
+pub plan_if_made : (job : JobFields) (part : List Tri) (visits : List Visit) → HasFewNodes job → ArePlanVisits job part visits
     → (r : Result (Vec Move) PlanFault) → IfOk r (λ moves. IsRound job part visits moves.items) → IfOk r (λ moves. length moves.items ≤ MAX_MOVES)
     → IfOk r (λ moves. HasPlan job part moves.items)
 plan_if_made job part visits nodes are (Ok moves) round few = record { nodes = nodes; is = plan_of job part visits moves.items are round; few = few }

@@ -15,7 +15,7 @@ use Rattle.mill_dexel.proofs.Cleared.{cut_at_end}
 use Rattle.mill_dexel.specs.Tops.{top_after}
 use Rattle.mill_job.specs.Columns.{column_x, column_y}
 use Rattle.mill_job.specs.Jobs.{IsJob}
-use Rattle.mill_job.specs.declared.job.Job.{Job}
+use Rattle.mill_job.specs.declared.fields.JobFields.{JobFields}
 use Rattle.mill_part.proofs.Below.{covered_below}
 use Rattle.mill_links.specs.Safety.{IsEndOf}
 use Rattle.mill_links.specs.declared.visit.Visit.{Visit}
@@ -52,13 +52,13 @@ free_under cutter t x y low high order free held =
     up a b h = omega (h, arith, ints)
 
 -- at the end of a good move the cutter holds no column's top
-free_at_end : (job : Job) (part : List Tri) (moves : List Move) (p : Pt3) (x y : ℤ) → IsJob job → GoodBefore job part moves (length moves) → IsEndOf moves p
+free_at_end : (job : JobFields) (part : List Tri) (moves : List Move) (p : Pt3) (x y : ℤ) → IsJob job → GoodBefore job part moves (length moves) → IsEndOf moves p
     → ¬ Holds job.cutter (pos 1) p (pos 1) (point_at x y (top_after job x y moves))
 free_at_end job part moves p x y ok good end =
     subst (λ (q : Pt3). ¬ Holds job.cutter (pos 1) q (pos 1) (point_at x y (top_after job x y moves))) end.here
     (cut_at_end job moves end.move x y ok.cutter_ok end.member (floor_at_end job part moves end.move good end.member))
 
-pub out_of_reach : (job : Job) (part : List Tri) (moves : List Move) (row col : ℕ) (top : ℤ) → IsJob job → HasPlan job part moves → FailsCut job part moves row col top
+pub out_of_reach : (job : JobFields) (part : List Tri) (moves : List Move) (row col : ℕ) (top : ℤ) → IsJob job → HasPlan job part moves → FailsCut job part moves row col top
     → IsOutOfReach job part row col top
 out_of_reach job part moves row col top ok plan left visits height are highest =
     let x : ℤ = column_x job col in

@@ -7,7 +7,7 @@ use Rattle.mill_base.specs.declared.points.Pt3.{Pt3}
 use Rattle.mill_base.specs.declared.points.Tri.{Tri}
 use Rattle.mill_dexel.specs.Rows.{RowState}
 use Rattle.mill_job.specs.Columns.{home}
-use Rattle.mill_job.specs.declared.job.Job.{Job}
+use Rattle.mill_job.specs.declared.fields.JobFields.{JobFields}
 use Rattle.mill_links.specs.Links.{AddsLink, FollowStock, IsLink, way_home}
 use Rattle.mill_links.specs.Tours.{IsTour, last_place}
 use Rattle.mill_links.specs.declared.visit.Visit.{Visit}
@@ -16,15 +16,11 @@ use Rattle.mill_base.specs.declared.limits.TheConstants.{MAX_MOVES}
 use Rattle.mill_plan.specs.inner.Feeds.{place_before}
 use Rattle.mill_plan.specs.inner.Steps.{IsLongRound, IsRound, IsTourOver}
 
-module _ (job : Job) where
+module _ (job : JobFields) where
   -- where the cutter is after the visit of number k, and after all
   pub place_after : (visits : List Visit) (k : ℕ) (d : Visit) → k < length visits → (slice_index_or visits k d).at ≡ place_before job visits (k + 1)
   place_after visits k d inside =
       sym (ap (λ (vs : List Visit). last_place (home job) vs) (take_more visits k d inside) ∙ last_snoc (home job) (take k visits) (slice_index_or visits k d))
-
-  -- before the first it is at home
-  pub place_first : (visits : List Visit) (number : ℕ) (place : Pt3) → number ≡ 0 → place ≡ home job → place ≡ place_before job visits number
-  place_first visits number place none there = there ∙ ap (λ k. place_before job visits k) (sym none)
 
   -- where it is before a visit is where the visit before that one lies
   pub place_at : (visits : List Visit) (number before : ℕ) (d : Visit) → before + 1 ≡ number → number < length visits

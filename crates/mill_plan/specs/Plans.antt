@@ -9,7 +9,7 @@ use Rattle.mill_base.specs.Ranges.{MovesInUnitRange}
 use Rattle.mill_base.specs.declared.points.Tri.{Tri}
 use Rattle.mill_base.specs.declared.motion.Move.{Move}
 use Rattle.mill_job.specs.Columns.{home, column_x, column_y}
-use Rattle.mill_job.specs.declared.job.Job.{Job}
+use Rattle.mill_job.specs.declared.fields.JobFields.{JobFields}
 use Rattle.mill_ngc.specs.Programs.{program_of}
 use Rattle.mill_links.specs.declared.visit.Visit.{Visit}
 use Rattle.mill_paths.specs.Lattices.{finish_lattice, rough_lattice}
@@ -17,7 +17,7 @@ use Rattle.mill_paths.specs.Limits.{HasManyNodes}
 use Rattle.mill_paths.specs.Plans.{ArePlanVisits, IsPlan}
 use Rattle.mill_paths.specs.Unique.{BeginsTour}
 use Rattle.mill_paths.specs.Visits.{AreFinishVisits, HaveManyFinishVisits, HaveManyLevelVisits, HaveManyRoughVisits}
-use Rattle.mill_post.specs.Texts.{program_text}
+use Rattle.mill_ngc.specs.Writing.{program_text}
 use Rattle.mill_verify.specs.Claims.{CutsSafely}
 use Rattle.mill_verify.specs.Verdicts.{IsVerdict}
 use Rattle.mill_verify.specs.declared.verdict.Verdict.TheVariants.{Accept, Reject}
@@ -40,26 +40,26 @@ pub data PlanAnswer : Type 0 where
 -- ---- the limits
 
 -- each lattice that the paths go over is within its limit; the rough one is gone over only where there is a layer
-pub record HasFewNodes (job : Job) : Type 0 where
+pub record HasFewNodes (job : JobFields) : Type 0 where
   pub finish : node_count (finish_lattice job) ≤ MAX_NODES
   pub rough : (pos 0) <ℤ job.layer → node_count (rough_lattice job) ≤ MAX_NODES
 
 -- the finishing lattice is within its limit, and the rough one, which is gone over, has so many nodes, and that is too many
-pub record HasManyRoughNodes (job : Job) (nodes : ℕ) : Type 0 where
+pub record HasManyRoughNodes (job : JobFields) (nodes : ℕ) : Type 0 where
   pub finish : node_count (finish_lattice job) ≤ MAX_NODES
   pub layer : (pos 0) <ℤ job.layer
   pub rough : HasManyNodes (rough_lattice job) nodes
 
 -- the first lattice that is over its limit has so many nodes: the finishing one, else the rough one
-abbrev pub IsOverNodes : Job → ℕ → Type 0
+abbrev pub IsOverNodes : JobFields → ℕ → Type 0
 IsOverNodes job nodes = HasManyNodes (finish_lattice job) nodes ⊎ HasManyRoughNodes job nodes
 
 -- already of the visits of a plan's roughing, of its levels or of its finishing path more differ from the one before them than a plan may have moves
-abbrev pub HasManyVisits : Job → List Tri → Type 0
+abbrev pub HasManyVisits : JobFields → List Tri → Type 0
 HasManyVisits job part = HaveManyRoughVisits job part ⊎ (HaveManyLevelVisits job part ⊎ HaveManyFinishVisits job part)
 
 -- these are a plan's visits, and these moves, with which it begins, go from home through the first of them and are too many
-pub record BeginsLong (job : Job) (part : List Tri) : Type 0 where
+pub record BeginsLong (job : JobFields) (part : List Tri) : Type 0 where
   pub visits : List Visit
   pub are : ArePlanVisits job part visits
   pub begun : List Move
@@ -67,23 +67,23 @@ pub record BeginsLong (job : Job) (part : List Tri) : Type 0 where
   pub many : MAX_MOVES < length begun
 
 -- these moves are a plan, and they are too many
-pub record HasLongPlan (job : Job) (part : List Tri) : Type 0 where
+pub record HasLongPlan (job : JobFields) (part : List Tri) : Type 0 where
   pub moves : List Move
   pub plan : IsPlan job part moves
   pub many : MAX_MOVES < length moves
 
 -- a plan is shown to be too long by visits that it comes to, by moves with which it begins, or by all its moves
-abbrev pub IsShownLong : Job → List Tri → Type 0
+abbrev pub IsShownLong : JobFields → List Tri → Type 0
 IsShownLong job part = HasManyVisits job part ⊎ (BeginsLong job part ⊎ HasLongPlan job part)
 
 -- the lattices are within their limits, and the plan's list of moves is too long, as visits or moves of it show
-pub record IsOverMoves (job : Job) (part : List Tri) : Type 0 where
+pub record IsOverMoves (job : JobFields) (part : List Tri) : Type 0 where
   pub nodes : HasFewNodes job
   pub shown : IsShownLong job part
   pub many : (moves : List Move) → IsPlan job part moves → MAX_MOVES < length moves
 
 -- the lattices are within their limits, and so is this list of moves, which is the plan
-pub record HasPlan (job : Job) (part : List Tri) (moves : List Move) : Type 0 where
+pub record HasPlan (job : JobFields) (part : List Tri) (moves : List Move) : Type 0 where
   pub nodes : HasFewNodes job
   pub is : IsPlan job part moves
   pub few : length moves ≤ MAX_MOVES
@@ -91,7 +91,7 @@ pub record HasPlan (job : Job) (part : List Tri) (moves : List Move) : Type 0 wh
 -- ---- the answers
 
 -- the text is the plan's in the job's unit, and reads back in that unit as its moves, which are in its range, from the job's home; the verdict on them is acceptance, with these numbers, and they cut safely
-pub record IsDone (job : Job) (part : List Tri) (text : List ℕ) (count columns : ℕ) (left : ℤ) : Type 0 where
+pub record IsDone (job : JobFields) (part : List Tri) (text : List ℕ) (count columns : ℕ) (left : ℤ) : Type 0 where
   pub moves : List Move
   pub plan : HasPlan job part moves
   pub written : text ≡ program_text job.unit moves
@@ -101,27 +101,27 @@ pub record IsDone (job : Job) (part : List Tri) (text : List ℕ) (count columns
   pub safe : CutsSafely job part moves
 
 -- no finishing visit has the point strictly inside the cutter that lies one unit over the column's greatest covered height and the allowance
-abbrev pub IsOutOfReach : Job → List Tri → ℕ → ℕ → ℤ → Type 0
+abbrev pub IsOutOfReach : JobFields → List Tri → ℕ → ℕ → ℤ → Type 0
 IsOutOfReach job part row col top = (visits : List Visit) (height : ℤ) → AreFinishVisits job part visits
     → IsHighestCovered part job.floor job.band (column_x job col) (column_y job row) top height
     → All (λ v. ¬ Holds job.cutter (pos 1) v.at (pos 1) (point_at (column_x job col) (column_y job row) (height +ℤ job.allowance +ℤ pos 1))) visits
 
 -- the verdict on the plan's moves is that the column's top is left too high, and the finishing path can't come to it
-pub record IsUncut (job : Job) (part : List Tri) (row col : ℕ) (top : ℤ) : Type 0 where
+pub record IsUncut (job : JobFields) (part : List Tri) (row col : ℕ) (top : ℤ) : Type 0 where
   pub moves : List Move
   pub plan : HasPlan job part moves
   pub left : IsVerdict job part moves (Reject (Left row col top))
   pub out_of_reach : IsOutOfReach job part row col top
 
 -- the verdict on the plan's moves is that on this one the holder doesn't pass this column
-pub record IsHeld (job : Job) (part : List Tri) (number row col : ℕ) : Type 0 where
+pub record IsHeld (job : JobFields) (part : List Tri) (number row col : ℕ) : Type 0 where
   pub moves : List Move
   pub plan : HasPlan job part moves
   pub leaf : Leaf
   pub stopped : IsVerdict job part moves (Reject (HolderStock number row col leaf))
 
 -- this is the planner's answer
-abbrev pub IsPlanAnswer : Job → List Tri → PlanAnswer → Type 0
+abbrev pub IsPlanAnswer : JobFields → List Tri → PlanAnswer → Type 0
 IsPlanAnswer job part (done text count columns left) = IsDone job part text count columns left
 IsPlanAnswer job part (too_many_nodes nodes) = IsOverNodes job nodes
 IsPlanAnswer job part too_many_moves = IsOverMoves job part
@@ -135,7 +135,7 @@ abbrev pub answer_of : Planned → PlanAnswer
 answer_of p = done p.program.items p.moves p.columns p.most_left
 
 -- a fault is the planner's answer, or tells of want of memory alone
-abbrev pub IsPlanFault : Job → List Tri → PlanFault → Type 0
+abbrev pub IsPlanFault : JobFields → List Tri → PlanFault → Type 0
 IsPlanFault job part (TooManyNodes nodes) = IsPlanAnswer job part (too_many_nodes nodes)
 IsPlanFault job part TooManyMoves = IsPlanAnswer job part too_many_moves
 IsPlanFault job part (Uncut row col top) = IsPlanAnswer job part (uncut row col top)

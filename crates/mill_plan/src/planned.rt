@@ -1,7 +1,7 @@
 /// A program that was planned, and what the verifier says of it.
 #[derive(Drop)]
 pub struct Planned {
-    /// Its text: G-codes as `mill_post` writes them.
+    /// Its text: G-codes as `mill_ngc` writes them.
     pub program: Vec<u8>,
     /// How many moves it has.
     pub moves: u64,

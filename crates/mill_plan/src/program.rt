@@ -1,9 +1,7 @@
 ghost use Rattle.std.specs.Prelude.{◌≡◌, ◌↔◌, ℕ, ◌≤◌, ℤ, pos, ◌<ℤ◌, [], length, None, Ok, IfErr, IfOk, IsErrOf, IsTrue};
 ghost use Rattle.mill_base.specs.declared.limits.TheConstants.{MAX_MOVES};
 ghost use Rattle.mill_base.specs.Covers.{IsUnder};
-ghost use Rattle.mill_cells.specs.Sorted.{sorted_of};
 ghost use Rattle.mill_job.specs.Columns.{home};
-ghost use Rattle.mill_job.specs.Jobs.{IsJob};
 ghost use Rattle.mill_links.specs.Links.{FollowStock};
 ghost use Rattle.mill_links.specs.Safety.{GoSafely};
 ghost use Rattle.mill_verify.specs.Claims.{CutsSafely};
@@ -16,11 +14,10 @@ use crate::fault::PlanFault;
 use crate::moves::{check_nodes, planned_moves, rows_for_depth};
 use crate::planned::Planned;
 use mill_base::{Move, WantOfMemory};
-use mill_cells::Cells;
 use mill_dexel::Row;
 use mill_job::Job;
-use mill_part::{Part, SortedPart};
-use mill_post::write_program;
+use mill_ngc::write_program;
+use mill_part::SortedPart;
 use mill_verify::{Reason, Verdict};
 use std::alloc::Global;
 
@@ -28,8 +25,8 @@ use std::alloc::Global;
 ///
 /// The cutter starts at the job's home, comes to the visits of its roughing, then to those along the
 /// waterlines at its levels, each closed one round to its first point again, and then to those of its
-/// finishing path (mill_paths), each by its link (mill_links), and goes home. The text is that of
-/// `mill_post` in the job's unit; it reads back as these moves, which the verifier accepts, with the
+/// finishing path (`mill_paths`), each by its link (`mill_links`), and goes home. The text is that of
+/// `mill_ngc` in the job's unit; it reads back as these moves, which the verifier accepts, with the
 /// numbers that are told.
 ///
 /// Where the job limits the depth of cut (`max_cut`), the way down to a place goes by pecks, none of
@@ -60,20 +57,20 @@ pub fn plan<C: PlanCrew>(
     crew: &C,
     alloc: Global,
     job: &Job,
-    part: &Part,
+    part: &SortedPart,
 ) -> Result<Planned, PlanFault>
     requires crew_ok { C.ready }
-    requires job_ok { IsJob job.now }
-    requires under { IsUnder part.now job.now.top }
-    ensures planned { IfOk result (λ planned. IsPlanAnswer job.now part.now (answer_of planned)) }
-    ensures fault { IfErr result (IsPlanFault job.now part.now) }
-    ensures nodes { (nodes : ℕ) → IsErrOf result (TooManyNodes nodes) ↔ IsOverNodes job.now nodes }
+    requires under { IsUnder part.now job.now.fields.top }
+    ensures planned { IfOk result (λ planned. IsPlanAnswer job.now.fields part.now (answer_of
+        planned)) }
+    ensures fault { IfErr result (IsPlanFault job.now.fields part.now) }
+    ensures nodes { (nodes : ℕ) →
+        IsErrOf result (TooManyNodes nodes) ↔ IsOverNodes job.now.fields nodes }
 {
     check_nodes(job)?;
-    let sorted = SortedPart::new(alloc, part)?;
     let mut rows = rows_for_depth(alloc, job)?;
-    let moves = planned_moves(crew, alloc, job, part, sorted.cells(), &mut rows)?;
-    verified(crew, alloc, job, part, sorted.cells(), &moves, &rows)
+    let moves = planned_moves(crew, alloc, job, part, &mut rows)?;
+    verified(crew, alloc, job, part, &moves, &rows)
 }
 
 /// The planner's answer, from the verdict on the plan's moves.
@@ -81,30 +78,28 @@ fn verified<C: PlanCrew>(
     crew: &C,
     alloc: Global,
     job: &Job,
-    part: &Part,
-    cells: &Cells,
+    part: &SortedPart,
     moves: &[Move],
     rows: &[Row],
 ) -> Result<Planned, PlanFault>
     requires crew_ok { C.ready }
-    requires job_ok { IsJob job.now }
-    requires cells_ok { cells.now ≡ sorted_of part.now }
-    requires under { IsUnder part.now job.now.top }
-    requires plan_ok { HasPlan job.now part.now moves.now }
-    requires safe { GoSafely job.now part.now [] (home job.now) moves.now (home job.now) }
-    requires stock { FollowStock job.now moves.now rows.now }
+    requires under { IsUnder part.now job.now.fields.top }
+    requires plan_ok { HasPlan job.now.fields part.now moves.now }
+    requires safe { GoSafely job.now.fields part.now [] (home job.now.fields) moves.now (home
+        job.now.fields) }
+    requires stock { FollowStock job.now.fields moves.now rows.now }
     ensures planned { IfOk
         result
-        (λ planned. IsPlanAnswer job.now part.now (answer_of planned)) }
-    ensures fault { IfErr result (IsPlanFault job.now part.now) }
+        (λ planned. IsPlanAnswer job.now.fields part.now (answer_of planned)) }
+    ensures fault { IfErr result (IsPlanFault job.now.fields part.now) }
 {
-    match verdict_on(crew, alloc, job, part, cells, moves, rows)? {
+    match verdict_on(crew, alloc, job, part, moves, rows)? {
         Verdict::Accept {
             moves: count,
             columns,
             most_left,
         } => {
-            let program = write_program(alloc, moves, job.unit)?;
+            let program = write_program(alloc, moves, job.fields.unit)?;
             Ok(Planned {
                 program,
                 moves: count,
@@ -133,38 +128,35 @@ fn verdict_on<C: PlanCrew>(
     crew: &C,
     alloc: Global,
     job: &Job,
-    part: &Part,
-    cells: &Cells,
+    part: &SortedPart,
     moves: &[Move],
     rows: &[Row],
 ) -> Result<Verdict, WantOfMemory>
     requires crew_ok { C.ready }
-    requires job_ok { IsJob job.now }
-    requires cells_ok { cells.now ≡ sorted_of part.now }
-    requires under { IsUnder part.now job.now.top }
+    requires under { IsUnder part.now job.now.fields.top }
     requires few { length moves.now ≤ MAX_MOVES }
-    requires safe { GoSafely job.now part.now [] (home job.now) moves.now (home job.now) }
-    requires stock { FollowStock job.now moves.now rows.now }
-    ensures verdict { IfOk result (IsVerdict job.now part.now moves.now) }
+    requires safe { GoSafely job.now.fields part.now [] (home job.now.fields) moves.now (home
+        job.now.fields) }
+    requires stock { FollowStock job.now.fields moves.now rows.now }
+    ensures verdict { IfOk result (IsVerdict job.now.fields part.now moves.now) }
     ensures safe { (count columns : ℕ) (left : ℤ)
         → result ≡ Ok (Verdict.Accept count columns left)
-        → CutsSafely job.now part.now moves.now }
+        → CutsSafely job.now.fields part.now moves.now }
 {
     if is_decided_by_stock(job) {
-        return Ok(crew.verdict_on_stock(job, part, cells, moves, rows));
+        return Ok(crew.verdict_on_stock(job, part, moves, rows));
     }
-    crew.verify(alloc, job, part, cells, moves)
+    crew.verify(alloc, job, part, moves)
 }
 
 /// Whether what a plan's moves leave of the stock decides the verdict on them, and the rows tell it: the
 /// job has no holder, whose test against the stock alone may fail, and limits the depth of cut.
 fn is_decided_by_stock(job: &Job) -> bool
-    requires { IsJob job.now }
-    ensures limited { IsTrue result → pos 0 <ℤ job.now.max_cut }
-    ensures bare { IsTrue result → job.now.holder ≡ None }
+    ensures limited { IsTrue result → pos 0 <ℤ job.now.fields.max_cut }
+    ensures bare { IsTrue result → job.now.fields.holder ≡ None }
 {
-    if job.max_cut == 0 {
+    if job.fields.max_cut == 0 {
         return false;
     }
-    job.holder.is_none()
+    job.fields.holder.is_none()
 }

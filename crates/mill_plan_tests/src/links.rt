@@ -4,13 +4,14 @@ ghost use Rattle.mill_base.specs.Ranges.{IsInRange};
 ghost use Rattle.mill_dexel.specs.Rows.{IsRowOf};
 ghost use Rattle.mill_job.specs.Jobs.{IsJob};
 
-use crate::parts::part_of;
-use crate::tables::{add, halves, job, point, same};
+use crate::parts::corners_of;
+use crate::tables::{job, same};
 use mill_base::{Kind, Move, Pt3, WantOfMemory};
 use mill_dexel::{Row, uncut_rows};
 use mill_job::Job;
 use mill_links::{Visit, home, link};
-use mill_part::{Part, SortedPart};
+use mill_part::SortedPart;
+use mill_tables::{add_with_comma, halves, part_of, point};
 use std::alloc::Global;
 use std::process::Abort;
 use std::test::Fail;
@@ -27,40 +28,19 @@ fn visit(word: &str) -> Result<Visit, Fail>
     })
 }
 
-/// Adds the moves of the link past the part.
-fn add_link(
-    alloc: Global,
-    job: &Job,
-    part: &Part,
-    rows: &mut [Row],
-    from: Pt3,
-    to: Visit,
-    moves: &mut Vec<Move>,
-) -> Result<(), WantOfMemory>
-    requires job_ok { IsJob job.now }
-    requires rows_ok { All (IsRowOf job.now) rows.old }
-    requires from_ok { IsInRange from }
-    requires to_ok { IsInRange to.at }
-    ensures rows_ok { All (IsRowOf job.now) rows.new }
-{
-    let sorted = SortedPart::new(alloc, part)?;
-    link(job, part, sorted.cells(), rows, from, to, moves)
-}
-
 /// Adds the moves to a visit, or home, and says where the cutter is then.
 fn leg(
     alloc: Global,
     job: &Job,
-    part: &Part,
+    part: &SortedPart,
     rows: &mut [Row],
     from: Pt3,
     word: &str,
     moves: &mut Vec<Move>,
 ) -> Result<Pt3, Fail>
-    requires job_ok { IsJob job.now }
-    requires rows_ok { All (IsRowOf job.now) rows.old }
+    requires rows_ok { All (IsRowOf job.now.fields) rows.old }
     requires from_ok { IsInRange from }
-    ensures rows_ok { All (IsRowOf job.now) rows.new }
+    ensures rows_ok { All (IsRowOf job.now.fields) rows.new }
     ensures at_ok { IfOk result IsInRange }
 {
     if word == "home" {
@@ -68,7 +48,7 @@ fn leg(
         return Ok(job.home());
     }
     let to = visit(word)?;
-    add_link(alloc, job, part, rows, from, to, moves)?;
+    link(job, part, rows, from, to, moves)?;
     Ok(to.at)
 }
 
@@ -76,13 +56,12 @@ fn leg(
 fn legs(
     alloc: Global,
     job: &Job,
-    part: &Part,
+    part: &SortedPart,
     rows: &mut [Row],
     from: Pt3,
     words: &str,
 ) -> Result<Vec<Move>, Fail>
-    requires job_ok { IsJob job.now }
-    requires rows_ok { All (IsRowOf job.now) rows.old }
+    requires rows_ok { All (IsRowOf job.now.fields) rows.old }
     requires from_ok { IsInRange from }
 {
     let mut moves = Vec::new(alloc);
@@ -108,15 +87,13 @@ fn told_move(alloc: Global, step: &Move) -> Result<String, Fail> {
 fn told_moves(alloc: Global, moves: &[Move]) -> Result<String, Fail> {
     let mut told = String::new(alloc);
     for step in moves {
-        add(&mut told, &told_move(alloc, step)?)?;
+        add_with_comma(&mut told, &told_move(alloc, step)?)?;
     }
     Ok(told)
 }
 
 /// The moves from a place on, and the tops of the middle row of the stock after them.
-fn told_way(alloc: Global, job: &Job, part: &Part, way: &str) -> Result<String, Fail>
-    requires { IsJob job.now }
-{
+fn told_way(alloc: Global, job: &Job, part: &SortedPart, way: &str) -> Result<String, Fail> {
     let (from, words) = way.split_once(": ").ok_or("a way without a start")?;
     let from = point(from)?;
     let mut rows = uncut_rows(alloc, job)?;
@@ -128,7 +105,10 @@ fn told_way(alloc: Global, job: &Job, part: &Part, way: &str) -> Result<String, 
 
 fn told(alloc: Global, given: &str) -> Result<String, Fail> {
     let (keys, way) = given.split_once(" | ").ok_or("a row without a way")?;
-    let (job, part) = (job(alloc, keys)?, part_of(alloc, "corner-peak")?);
+    let (job, part) = (
+        job(alloc, keys)?,
+        part_of(alloc, corners_of("corner-peak")?)?,
+    );
     told_way(alloc, &job, &part, way)
 }
 

@@ -1,15 +1,15 @@
 //! Plans, with threads and without.
 ghost use Rattle.mill_base.specs.Covers.{IsUnder};
-ghost use Rattle.mill_job.specs.Jobs.{IsJob};
 
-use crate::parts::part_under;
-use crate::tables::{halves, job, same};
+use crate::parts::corners_of;
+use crate::tables::{job, same};
 use mill_base::Move;
 use mill_crew::{Alone, Threaded};
 use mill_job::Job;
 use mill_ngc::{NgcFault, Reader};
-use mill_part::Part;
+use mill_part::SortedPart;
 use mill_plan::{PlanFault, Planned, plan};
+use mill_tables::{halves, part_under};
 use std::alloc::Global;
 use std::process::Abort;
 use std::test::Fail;
@@ -35,10 +35,9 @@ fn plans<R: Threads + Sync>(
     rt: &R,
     alloc: Global,
     job: &Job,
-    part: &Part,
+    part: &SortedPart,
 ) -> (Result<Planned, PlanFault>, Result<Planned, PlanFault>)
-    requires job { IsJob job.now }
-    requires under { IsUnder part.now job.now.top }
+    requires under { IsUnder part.now job.now.fields.top }
 {
     let crew = Threaded { rt, workers: 2 };
     (
@@ -55,7 +54,7 @@ fn plans_of<R: Threads + Sync>(
 ) -> Result<(Result<Planned, PlanFault>, Result<Planned, PlanFault>), Fail> {
     let (keys, name) = given.split_once(" | ").ok_or("a row without a part")?;
     let job = job(alloc, keys)?;
-    let part = part_under(alloc, job.top, name)?;
+    let part = part_under(alloc, job.fields.top, corners_of(name)?)?;
     Ok(plans(rt, alloc, &job, &part))
 }
 
@@ -126,11 +125,9 @@ fn plans_alike_with_threads_and_alone(rt: HostRuntime) -> Result<(), Fail> {
 }
 
 /// The moves that a program's text reads as, from home.
-fn read_back(alloc: Global, job: &Job, text: &[u8]) -> Result<Vec<Move>, NgcFault>
-    requires { IsJob job.now }
-{
+fn read_back(alloc: Global, job: &Job, text: &[u8]) -> Result<Vec<Move>, NgcFault> {
     let mut moves = Vec::new(alloc);
-    let mut reader = Reader::new(job.home(), job.unit);
+    let mut reader = Reader::new(job.home(), job.fields.unit);
     reader.feed(text, &mut moves)?;
     reader.finish(&mut moves)?;
     Ok(moves)

@@ -1,12 +1,12 @@
 //! The visits of paths.
-ghost use Rattle.mill_job.specs.Jobs.{IsJob};
 
-use crate::parts::part_of;
-use crate::tables::{first_word, halves, job, same};
+use crate::parts::corners_of;
+use crate::tables::{job, same};
 use mill_crew::Threaded;
 use mill_job::Job;
-use mill_part::{Part, SortedPart};
+use mill_part::SortedPart;
 use mill_paths::{PathFault, Visit, finish_visits, level_visits, rough_visits};
+use mill_tables::{first_word, halves, part_of};
 use std::alloc::Global;
 use std::process::Abort;
 use std::test::Fail;
@@ -18,16 +18,13 @@ fn visits_of<R: Threads + Sync>(
     alloc: Global,
     path: &str,
     job: &Job,
-    part: &Part,
-) -> Result<Vec<Visit>, PathFault>
-    requires { IsJob job.now }
-{
+    part: &SortedPart,
+) -> Result<Vec<Visit>, PathFault> {
     let crew = Threaded { rt, workers: 1 };
-    let sorted = SortedPart::new(alloc, part)?;
     match path {
-        "rough" => rough_visits(&crew, alloc, job, part, sorted.cells()),
-        "level" => level_visits(&crew, alloc, job, part, sorted.cells()),
-        _ => finish_visits(&crew, alloc, job, part, sorted.cells()),
+        "rough" => rough_visits(&crew, alloc, job, part),
+        "level" => level_visits(&crew, alloc, job, part),
+        _ => finish_visits(&crew, alloc, job, part),
     }
 }
 
@@ -59,7 +56,7 @@ fn told_visits(alloc: Global, visits: &[Visit], wanted: &str) -> Result<String, 
 fn told<R: Threads + Sync>(rt: &R, alloc: Global, row: &str, wanted: &str) -> Result<String, Fail> {
     let (path, given) = first_word(row)?;
     let (keys, part) = given.split_once(" | ").ok_or("a row without a part")?;
-    let (job, part) = (job(alloc, keys)?, part_of(alloc, part)?);
+    let (job, part) = (job(alloc, keys)?, part_of(alloc, corners_of(part)?)?);
     match visits_of(rt, alloc, path, &job, &part) {
         Ok(visits) => told_visits(alloc, &visits, wanted),
         Err(fault) => Ok(format!(in alloc; "{fault:?}")?),

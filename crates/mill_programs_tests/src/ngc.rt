@@ -4,9 +4,10 @@ ghost use Rattle.mill_base.specs.declared.unit.Unit.TheVariants.{Hundredth};
 
 mod pieces;
 
-use crate::tables::{halves, same, with_blanks, with_bytes};
+use crate::tables::{same, with_blanks};
 use mill_base::{Kind, Move, Pt3, Unit};
 use mill_ngc::{NgcFault, Reader};
+use mill_tables::{halves, with_bytes};
 use std::alloc::Global;
 use std::process::Abort;
 use std::test::Fail;

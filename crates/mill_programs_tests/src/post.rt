@@ -2,8 +2,7 @@
 ghost use Rattle.mill_base.specs.Ranges.{IsInUnitRange};
 
 use mill_base::{Kind, Move, Pt3, Unit};
-use mill_ngc::{NgcFault, Reader};
-use mill_post::write_program;
+use mill_ngc::{NgcFault, Reader, write_program};
 use std::alloc::Global;
 use std::process::Abort;
 use std::test::Fail;

@@ -1,7 +1,8 @@
-use crate::tables::{halves, same, with_bytes};
+use crate::tables::same;
 use mill_base::{Pt3, Tri, Unit};
 use mill_decimal::Snap;
 use mill_stl::{StlFault, read_stl};
+use mill_tables::{halves, with_bytes};
 use std::alloc::Global;
 use std::process::Abort;
 use std::test::Fail;

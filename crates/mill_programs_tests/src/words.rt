@@ -1,5 +1,6 @@
 //! Lines and what they say, by hand.
-use crate::tables::{halves, same};
+use crate::tables::same;
+use mill_tables::halves;
 use mill_words::{LineWords, read_line, read_line_into};
 use std::alloc::Global;
 use std::process::Abort;

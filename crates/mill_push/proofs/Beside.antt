@@ -15,7 +15,8 @@ use Rattle.mill_push.specs.declared.fiber.Fiber.{Fiber}
 use Rattle.mill_push.specs.declared.fiber.Run.{Run}
 use Rattle.mill_push.specs.Fibers.{IsTouched}
 use Rattle.mill_push.specs.Runs.{StandsIn}
-use Rattle.mill_push.specs.Stretches.{IsClear, IsHeld, IsStretchAnswer}
+use Rattle.mill_push.specs.Stretches.{IsStretchAnswer}
+use Rattle.mill_push.specs.inner.Probes.{IsFirstEnd, IsLastEnd}
 use Rattle.mill_push.specs.Touches.{position_count}
 use Rattle.mill_push.specs.inner.Known.{IsInside, IsKnown, IsNewAnswer, IsNewStretch, IsRunInRange}
 use Rattle.mill_push.proofs.Means.{touched_between}
@@ -63,13 +64,13 @@ module _ (cutter : Cutter) (tri : Tri) (fiber : Fiber) (rest run : Run) (inside 
   nothing none v a b t = absurd (none (v -ℤ (run.last +ℤ pos 1)) (subst T (omega (arith, ints)) t))
 
   -- it is touched just after the run, and not just before it
-  pub only_past : (last : ℤ) → T (run.last +ℤ pos 1) → ¬ T (run.first -ℤ pos 1) → (run.last +ℤ pos 1) ≤ℤ last → last ≤ℤ rest.last → IsHeld cutter tri fiber (run.last +ℤ pos 1) last
-      → IsClear cutter tri fiber (last +ℤ pos 1) rest.last → IsNewStretch cutter tri fiber rest.first rest.last (run ∷ []) (record { first = run.last +ℤ pos 1; last = last })
-  only_past last t apart some within held clear = record {
-    span = record { after = let a = inside.before in let b = inside.some in omega (arith, ints); some = some; within = within };
-    touched = held;
+  pub only_past : (last : ℤ) → T (run.last +ℤ pos 1) → ¬ T (run.first -ℤ pos 1) → IsLastEnd cutter tri fiber (run.last +ℤ pos 1) rest.last last
+      → IsNewStretch cutter tri fiber rest.first rest.last (run ∷ []) (record { first = run.last +ℤ pos 1; last = last })
+  only_past last t apart end = record {
+    span = record { after = let a = inside.before in let b = inside.some in omega (arith, ints); some = end.after; within = end.before };
+    touched = end.held;
     before = λ v a less u. place v (λ under. absurd (apart (touched_between cutter tri fiber v (run.first -ℤ pos 1) (run.last +ℤ pos 1) (omega (arith, ints)) (over_run run.first run.last inside.some) u t))) (λ past. absurd (against run.last v past less));
-    beyond = λ v more b u. absurd (clear v (omega (arith, ints)) b u);
+    beyond = λ v more b u. absurd (end.clear v (omega (arith, ints)) b u);
   }
     where
       over_run : (f l : ℤ) → f ≤ℤ l → (f -ℤ pos 1) ≤ℤ (l +ℤ pos 1)
@@ -79,18 +80,17 @@ module _ (cutter : Cutter) (tri : Tri) (fiber : Fiber) (rest run : Run) (inside 
       against l v h k = omega (arith, ints)
 
   -- it is touched on both sides of the run, and so in it
-  pub on_both : (first last : ℤ) → rest.first ≤ℤ first → first ≤ℤ (run.first -ℤ pos 1) → (run.last +ℤ pos 1) ≤ℤ last → last ≤ℤ rest.last → IsHeld cutter tri fiber first (run.first -ℤ pos 1)
-      → IsHeld cutter tri fiber (run.last +ℤ pos 1) last → IsClear cutter tri fiber rest.first (first -ℤ pos 1) → IsClear cutter tri fiber (last +ℤ pos 1) rest.last
+  pub on_both : (first last : ℤ) → IsFirstEnd cutter tri fiber rest.first (run.first -ℤ pos 1) first → IsLastEnd cutter tri fiber (run.last +ℤ pos 1) rest.last last
       → IsNewStretch cutter tri fiber rest.first rest.last (run ∷ []) (record { first = first; last = last })
-  on_both first last a b c d left right clear_left clear_right = record {
-    span = record { after = a; some = let e = inside.some in omega (arith, ints); within = d };
-    touched = λ v u w. by_lt_z v run.first (λ under. left v u (omega (arith, ints))) (λ from. by_lt_z run.last v (λ past. right v (omega (arith, ints)) w) (λ to. between v from to));
-    before = λ v u w t. absurd (clear_left v u (omega (arith, ints)) t);
-    beyond = λ v u w t. absurd (clear_right v (omega (arith, ints)) w t);
+  on_both first last left right = record {
+    span = record { after = left.after; some = let b = left.before in let c = right.after in let e = inside.some in omega (arith, ints); within = right.before };
+    touched = λ v u w. by_lt_z v run.first (λ under. left.held v u (omega (arith, ints))) (λ from. by_lt_z run.last v (λ past. right.held v (omega (arith, ints)) w) (λ to. between v from to));
+    before = λ v u w t. absurd (left.clear v u (omega (arith, ints)) t);
+    beyond = λ v u w t. absurd (right.clear v (omega (arith, ints)) w t);
   }
     where
       between : (v : ℤ) → run.first ≤ℤ v → v ≤ℤ run.last → T v
-      between v from to = touched_between cutter tri fiber (run.first -ℤ pos 1) v (run.last +ℤ pos 1) (omega (arith, ints)) (omega (arith, ints)) (left (run.first -ℤ pos 1) b (omega (arith, ints))) (right (run.last +ℤ pos 1) (omega (arith, ints)) c)
+      between v from to = touched_between cutter tri fiber (run.first -ℤ pos 1) v (run.last +ℤ pos 1) (omega (arith, ints)) (omega (arith, ints)) (left.held (run.first -ℤ pos 1) left.before (omega (arith, ints))) (right.held (run.last +ℤ pos 1) (omega (arith, ints)) right.after)
 
 -- the run's ends, and the position after it, are in range
 module _ (rest run : Run) (ok : IsRunInRange rest) (inside : IsInside rest run) where

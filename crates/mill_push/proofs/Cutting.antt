@@ -32,13 +32,6 @@ pub record AreKnownBackTo (known : List Run) (last end : ℤ) : Type 0 where
   pub cut : (v : ℤ) → end <ℤ v → v ≤ℤ last → StandsIn known v
 
 module _ (known : List Run) where
-  -- before the first run is cut off
-  pub none_before : (first : ℤ) → AreKnownUpTo known first first
-  none_before first = record { after = omega (arith, ints); cut = λ v a b. absurd (omega (arith, ints)) }
-
-  pub none_beyond : (last : ℤ) → AreKnownBackTo known last last
-  none_beyond last = record { before = omega (arith, ints); cut = λ v a b. absurd (omega (arith, ints)) }
-
   -- one run of the list is cut off more
   pub more_before : (first after : ℤ) (run : Run) → Contains known run → IsAt run after → AreKnownUpTo known first after → AreKnownUpTo known first (run.last +ℤ pos 1)
   more_before first after run member at k = record {
@@ -117,19 +110,6 @@ module _ (cutter : Cutter) (tri : Tri) (fiber : Fiber) (from to : ℤ) (known : 
         before = λ v a less t. absurd (stretch.before v a less t);
         beyond = λ v more b t. absurd (stretch.beyond v more b t);
       }
-
-  -- where a rest has positions, they are in range
-  pub rest_in_range : Within MAX_COORDINATE from → Within MAX_COORDINATE to → rest.first ≤ℤ rest.last → IsRunInRange rest
-  rest_in_range h k order = record {
-    first_ok = within_between from rest.first to h k after (through rest.first rest.last to order within);
-    last_ok = within_between from rest.last to h k (through from rest.first rest.last after order) within;
-  }
-    where
-      after : from ≤ℤ rest.first
-      after = through from window.first rest.first w.after r.after
-
-      within : rest.last ≤ℤ to
-      within = through rest.last window.last to r.within w.within
 
 -- what stands in one of the runs stands in the runs
 pub in_one_of : (known : List Run) (run : Run) → Contains known run → (v : ℤ) → StandsIn (run ∷ []) v → StandsIn known v

@@ -1,8 +1,8 @@
 -- The search for an end of a triangle's stretch: what touches near its aim leave, and what halving finds in that.
-use Rattle.std.proofs.Common.{ℕ, ◌+◌, ◌<◌, ◌≤◌, subst, arith}
+use Rattle.std.proofs.Common.{ℕ, ◌+◌, ◌*◌, ◌<◌, ◌≤◌, subst, inl, inr, arith}
 use Rattle.std.specs.Prelude.{◌^◌, nat_abs}
-use Rattle.std.proofs.lemmas.Int.{ints, by_lt_z}
-use lib.IntN.{ℤ, pos, ◌+ℤ◌, ◌-ℤ◌}
+use Rattle.std.proofs.lemmas.Int.{ints}
+use lib.IntN.{ℤ, pos, ◌+ℤ◌, ◌-ℤ◌, ◌*ℤ◌}
 use lib.Signed.{◌<ℤ◌, ◌≤ℤ◌}
 use Rattle.mill_base.specs.Numbers.{Within}
 use Rattle.mill_base.specs.declared.limits.TheConstants.{MAX_COORDINATE}
@@ -14,30 +14,17 @@ use Rattle.mill_push.specs.declared.probe.Way.TheVariants.{Back, On}
 use Rattle.mill_push.specs.declared.probe.Search.{Search}
 use Rattle.mill_push.specs.declared.probe.Left.{Left}
 use Rattle.mill_push.specs.Fibers.{IsTouched}
-use Rattle.mill_push.specs.Stretches.{IsClear, IsHeld}
-use Rattle.mill_push.specs.inner.Probes.{IsLeft, IsSearch, place_from, place_in}
-use Rattle.mill_push.specs.inner.Pushers.{IsBetween}
+use Rattle.mill_push.specs.inner.Probes.{IsCut, IsFirstEnd, IsLastEnd, IsLeft, IsSearch, left_of, place_from, place_in}
 use Rattle.mill_push.proofs.Means.{touched_between}
-use Rattle.mill_push.proofs.Stored.{within_between}
 
 abbrev pub search_of : Way → ℤ → ℤ → Search
 search_of way found limit = record { way = way; found = found; limit = limit }
-
-abbrev pub left_of : ℤ → ℤ → Left
-left_of held free = record { held = held; free = free }
-
--- a count up to the limit is that of a position in range
-place_within : (way : Way) (found limit k : ℤ) → Within MAX_COORDINATE found → Within MAX_COORDINATE (place_from way found limit) → (pos 0) ≤ℤ k → k ≤ℤ limit → Within MAX_COORDINATE (place_from way found k)
-place_within Back found limit k h e a b = within_between (found -ℤ limit) (found -ℤ k) found e h (omega (arith, ints)) (omega (arith, ints))
-place_within On found limit k h e a b = within_between found (found +ℤ k) (found +ℤ limit) h e (omega (arith, ints)) (omega (arith, ints))
-
-pub place_ok : (search : Search) (k : ℤ) → IsSearch search → (pos 0) ≤ℤ k → k ≤ℤ search.limit → Within MAX_COORDINATE (place_in search k)
-place_ok search k h a b = place_within search.way search.found search.limit k h.found_ok h.end_ok a b
 
 pub back_ok : (low found : ℤ) → Within MAX_COORDINATE low → Within MAX_COORDINATE found → low ≤ℤ found → IsSearch (search_of Back found (found -ℤ low))
 back_ok low found h k order = record {
   found_ok = k;
   some = omega (arith, ints);
+  most = let a = h.within in let b = k.within in omega (arith, ints);
   end_ok = subst (λ v. Within MAX_COORDINATE v) (omega (arith, ints)) h;
 }
 
@@ -45,6 +32,7 @@ pub on_ok : (found high : ℤ) → Within MAX_COORDINATE found → Within MAX_CO
 on_ok found high h k order = record {
   found_ok = h;
   some = omega (arith, ints);
+  most = let a = h.within in let b = k.within in omega (arith, ints);
   end_ok = subst (λ v. Within MAX_COORDINATE v) (omega (arith, ints)) k;
 }
 
@@ -92,56 +80,41 @@ module _ (cutter : Cutter) (tri : Tri) (fiber : Fiber) where
     clear = λ k c d t. none (counts_between search.way search.found left.held at k (omega (arith, ints)) (omega (arith, ints)) h.touched t);
   }
 
-  -- back from `found` down to `low`: the end is looked for among the positions that are left
-  module _ (low found : ℤ) (left : Left) (h : IsLeft cutter tri fiber (search_of Back found (found -ℤ low)) left) where
-    pub first_between : (first : ℤ) → IsBetween (found -ℤ left.free) (found -ℤ left.held) first → IsBetween low found first
-    first_between first b =
-        let f = b.from in let t = b.to in let a = h.from in let e = h.to in
-        record { from = omega (arith, ints); to = omega (arith, ints) }
+  -- nothing is left
+  pub left_ends : (search : Search) (left : Left) → left.free ≤ℤ left.held → IsLeft cutter tri fiber search left → IsLeft cutter tri fiber search (left_of left.held left.held)
+  left_ends search left done h =
+      let a = h.order in let b = h.to in
+      record { from = h.from; order = omega (arith, ints); to = omega (arith, ints); touched = h.touched; clear = λ k u v. h.clear k (omega (arith, ints)) v }
 
-    pub first_held : (first : ℤ) → T found → IsHeld cutter tri fiber first (found -ℤ left.held) → IsHeld cutter tri fiber first found
-    first_held first t held v a b =
-        by_lt_z (found -ℤ left.held) v
-        (λ over. touched_between cutter tri fiber (found -ℤ left.held) v found (omega (over, arith, ints)) b h.touched t)
-        (λ under. held v a under)
+  -- the end's count is that of the first position, where it is counted back, and of the last one, where it is counted on
+  pub first_end : (low found k : ℤ) → T found → IsLeft cutter tri fiber (search_of Back found (found -ℤ low)) (left_of k k) → IsFirstEnd cutter tri fiber low found (found -ℤ k)
+  first_end low found k t h = let a = h.from in let b = h.to in record {
+    after = omega (arith, ints);
+    before = omega (arith, ints);
+    held = λ v u w. touched_between cutter tri fiber (found -ℤ k) v found u w h.touched t;
+    clear = λ v u w s. h.clear (found -ℤ v) (omega (arith, ints)) (omega (arith, ints)) (subst T (omega (arith, ints)) s);
+  }
 
-    pub first_clear : (first : ℤ) → IsClear cutter tri fiber (found -ℤ left.free) (first -ℤ pos 1) → IsClear cutter tri fiber low (first -ℤ pos 1)
-    first_clear first clear v a b =
-        by_lt_z v (found -ℤ left.free)
-        (λ less t. h.clear (found -ℤ v) (omega (less, arith, ints)) (omega (a, arith, ints)) (subst T (omega (arith, ints)) t))
-        (λ over. clear v over b)
+  pub last_end : (found high k : ℤ) → T found → IsLeft cutter tri fiber (search_of On found (high -ℤ found)) (left_of k k) → IsLastEnd cutter tri fiber found high (found +ℤ k)
+  last_end found high k t h = let a = h.from in let b = h.to in record {
+    after = omega (arith, ints);
+    before = omega (arith, ints);
+    held = λ v u w. touched_between cutter tri fiber found v (found +ℤ k) u w t h.touched;
+    clear = λ v u w s. h.clear (v -ℤ found) (omega (arith, ints)) (omega (arith, ints)) (subst T (omega (arith, ints)) s);
+  }
 
-    pub first_cost : (old now new probes : ℕ) → now ≤ old + probes → ((n : ℕ) → nat_abs ((found -ℤ left.held) -ℤ (found -ℤ left.free)) < 2 ^ n → new ≤ now + n)
-        → (n : ℕ) → nat_abs (found -ℤ low) < 2 ^ n → new ≤ old + (n + probes)
-    first_cost old now new probes near halves n under =
-        let a = h.from in let b = h.order in let c = h.to in
-        let fewer : nat_abs ((found -ℤ left.held) -ℤ (found -ℤ left.free)) ≤ nat_abs (found -ℤ low) = omega (arith, ints) in
-        let k = halves n (omega arith) in
-        omega arith
+  -- the touches near the aim, and those by halves
+  pub near_cost : (search : Search) (left : Left) (old now new probes : ℕ) → IsLeft cutter tri fiber search left → now ≤ old + probes
+      → ((n : ℕ) → nat_abs (left.free -ℤ left.held) < 2 ^ n → new ≤ now + n) → (n : ℕ) → nat_abs search.limit < 2 ^ n → new ≤ old + (n + probes)
+  near_cost search left old now new probes h near halves n under =
+      let a = h.from in let b = h.order in let c = h.to in
+      let fewer : nat_abs (left.free -ℤ left.held) ≤ nat_abs search.limit = omega (arith, ints) in
+      let k = halves n (omega arith) in
+      omega arith
 
-  -- on from `found` up to `high`
-  module _ (found high : ℤ) (left : Left) (h : IsLeft cutter tri fiber (search_of On found (high -ℤ found)) left) where
-    pub last_between : (last : ℤ) → IsBetween (found +ℤ left.held) (found +ℤ left.free) last → IsBetween found high last
-    last_between last b =
-        let f = b.from in let t = b.to in let a = h.from in let e = h.to in
-        record { from = omega (arith, ints); to = omega (arith, ints) }
-
-    pub last_held : (last : ℤ) → T found → IsHeld cutter tri fiber (found +ℤ left.held) last → IsHeld cutter tri fiber found last
-    last_held last t held v a b =
-        by_lt_z v (found +ℤ left.held)
-        (λ under. touched_between cutter tri fiber found v (found +ℤ left.held) a (omega (under, arith, ints)) t h.touched)
-        (λ over. held v over b)
-
-    pub last_clear : (last : ℤ) → IsClear cutter tri fiber (last +ℤ pos 1) (found +ℤ left.free) → IsClear cutter tri fiber (last +ℤ pos 1) high
-    last_clear last clear v a b =
-        by_lt_z (found +ℤ left.free) v
-        (λ more t. h.clear (v -ℤ found) (omega (more, arith, ints)) (omega (b, arith, ints)) (subst T (omega (arith, ints)) t))
-        (λ under. clear v a under)
-
-    pub last_cost : (old now new probes : ℕ) → now ≤ old + probes → ((n : ℕ) → nat_abs ((found +ℤ left.free) -ℤ (found +ℤ left.held)) < 2 ^ n → new ≤ now + n)
-        → (n : ℕ) → nat_abs (high -ℤ found) < 2 ^ n → new ≤ old + (n + probes)
-    last_cost old now new probes near halves n under =
-        let a = h.from in let b = h.order in let c = h.to in
-        let fewer : nat_abs ((found +ℤ left.free) -ℤ (found +ℤ left.held)) ≤ nat_abs (high -ℤ found) = omega (arith, ints) in
-        let k = halves n (omega arith) in
-        omega arith
+-- a touch in the middle leaves at most half of what was left
+pub cut_half : (left result : Left) (at : ℤ) → (left.held +ℤ pos 1) ≤ℤ at → at ≤ℤ left.free → (pos 2 *ℤ (at -ℤ (left.held +ℤ pos 1))) ≤ℤ (left.free -ℤ (left.held +ℤ pos 1))
+    → (pos 2 *ℤ (left.free -ℤ at)) ≤ℤ ((left.free -ℤ (left.held +ℤ pos 1)) +ℤ pos 1) → IsCut left at result
+    → (0 < nat_abs (left.free -ℤ left.held)) × (2 * nat_abs (result.free -ℤ result.held) ≤ nat_abs (left.free -ℤ left.held))
+cut_half left result at a b before beyond (inl e) = rw e (omega (arith, ints), omega (arith, ints))
+cut_half left result at a b before beyond (inr e) = rw e (omega (arith, ints), omega (arith, ints))

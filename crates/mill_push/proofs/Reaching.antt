@@ -14,16 +14,12 @@ use Rattle.mill_base.specs.Sizes.{IsCutter, HasRadius, IsSlope}
 use Rattle.mill_base.specs.declared.limits.TheConstants.{MAX_RADIUS}
 use Rattle.mill_base.specs.declared.points.Tri.{Tri}
 use Rattle.mill_base.specs.declared.cutter.Cutter.{Cutter}
-use Rattle.mill_base.specs.declared.cutter.Cutter.TheVariants.{Flat, Ball, Cone}
+use Rattle.mill_base.specs.declared.cutter.Cutter.TheVariants.{Ball, Cone}
 use Rattle.mill_part.specs.Tops.{IsTop}
 use Rattle.mill_shape.proofs.Holding.{inside_over}
 use Rattle.mill_push.specs.inner.Reaches.{IsBallReach, IsReach, IsReachForPart, IsReachForTri, IsWallReach}
 use Rattle.mill_push.proofs.Pushing.{has_radius}
 use Rattle.mill_push.proofs.ReachCerts.{in_sphere_under, no_wider, on_wall_under, root_most, sunk, under_centre}
-
--- a flat cutter is as wide everywhere
-pub flat_reach : (r h : ℤ) → HasRadius r MAX_RADIUS → IsReach (Flat r) h r
-flat_reach r h size = record { least = size.least; most = omega (arith, ints); near = λ n d some low i. i.near }
 
 -- a ball, where the height is that of its sphere's centre or more, and where it is less
 high_ball : (r h k : ℤ) → (pos 1) ≤ℤ k → k ≤ℤ r → (r *ℤ r) ≤ℤ (k *ℤ k) → IsReach (Ball r) h k
@@ -146,9 +142,6 @@ not_over top z h = omega (arith, ints)
 
 pub over_by : (top z : ℤ) (h : ℕ) → z <ℤ top → h ≡ nat_abs (top -ℤ z) → pos h ≡ top -ℤ z
 over_by top z h less e = omega (arith, ints)
-
-pub over_some : (top z : ℤ) (h : ℕ) → z <ℤ top → h ≡ nat_abs (top -ℤ z) → 0 < h
-over_some top z h less e = omega (arith, ints)
 
 -- a reach for the part is one for each of its triangles
 pub for_member : (cutter : Cutter) (z reach : ℤ) (part : List Tri) (tri : Tri) → IsReachForPart cutter z reach part → Contains part tri → IsReachForTri cutter z reach tri

@@ -6,138 +6,18 @@ use lib.IntN.{ℤ, pos, ◌+ℤ◌, ◌-ℤ◌, ◌*ℤ◌}
 use lib.Signed.{◌<ℤ◌, ◌≤ℤ◌}
 use Rattle.mill_base.specs.declared.points.Tri.{Tri}
 use Rattle.mill_base.specs.declared.cutter.Cutter.{Cutter}
-use Rattle.mill_geom.specs.declared.touch.Side.{Side}
 use Rattle.mill_geom.specs.declared.touch.Side.TheVariants.{Less, More, Never}
 use Rattle.mill_geom.specs.Sides.{IsOnSide}
 use Rattle.mill_push.specs.declared.fiber.Fiber.{Fiber}
 use Rattle.mill_push.specs.Fibers.{IsTouched}
 use Rattle.mill_push.specs.declared.fiber.Run.{Run}
-use Rattle.mill_push.specs.Stretches.{IsClear, IsHeld, IsStretchAnswer, IsTouchedStretch}
+use Rattle.mill_push.specs.Stretches.{IsClear, IsStretchAnswer, IsTouchedStretch}
+use Rattle.mill_push.specs.inner.Probes.{IsFirstEnd, IsLastEnd}
 use Rattle.mill_push.proofs.Halving.{IsPaid, paid_first, paid_half, paid_spare, paid_ends}
-use Rattle.mill_push.proofs.Means.{touched_between}
-
--- counted from a position that is touched, the places up to `held` are touched, those past `free` aren't, and the count of the others has been paid for
-pub record EndSoFar (P : ℤ → Type 0) (limit held free : ℤ) (old now : ℕ) : Type 0 where
-  pub from : (pos 0) ≤ℤ held
-  pub order : held ≤ℤ free
-  pub to : free ≤ℤ limit
-  pub down : (k m : ℤ) → (pos 0) ≤ℤ k → k ≤ℤ m → P m → P k
-  pub touched : P held
-  pub clear : (k : ℤ) → free <ℤ k → k ≤ℤ limit → ¬ P k
-  pub cost : (n : ℕ) → nat_abs limit < 2 ^ n → IsPaid 1 (nat_abs (free -ℤ held)) old now n
-
-module _ (P : ℤ → Type 0) (limit : ℤ) (old : ℕ) where
-  end_starts : (start : ℤ) → start ≡ pos 0 → start ≤ℤ limit → ((k m : ℤ) → (pos 0) ≤ℤ k → k ≤ℤ m → P m → P k) → P start → EndSoFar P limit start limit old old
-  end_starts start zero order down touched = record {
-    from = omega (arith, ints);
-    order = order;
-    to = omega (arith, ints);
-    down = down;
-    touched = touched;
-    clear = λ k a b t. past k a b;
-    cost = λ n h. paid_first 1 (nat_abs (limit -ℤ start)) old n (whole n h);
-  }
-    where
-      past : (k : ℤ) → limit <ℤ k → k ≤ℤ limit → ⊥
-      past k a b = omega (arith, ints)
-
-      whole : (n : ℕ) → nat_abs limit < 2 ^ n → nat_abs (limit -ℤ start) < 2 ^ n
-      whole n h = let same : limit ≡ limit -ℤ start = omega (arith, ints) in subst (λ (l : ℤ). nat_abs l < 2 ^ n) same h
-
-  -- the middle of the places that are left is touched
-  end_inside : (held free middle : ℤ) (now later : ℕ) → held <ℤ middle → middle ≤ℤ free → (pos 2 *ℤ (free -ℤ middle)) ≤ℤ (free -ℤ held) → later ≡ now + 1 → P middle
-      → EndSoFar P limit held free old now → EndSoFar P limit middle free old later
-  end_inside held free middle now later from to half step touched h =
-      let some : 0 < nat_abs (free -ℤ held) = omega (arith, ints) in
-      let less : 2 * nat_abs (free -ℤ middle) ≤ nat_abs (free -ℤ held) = omega (arith, ints) in
-      record {
-        from = omega (arith, ints);
-        order = to;
-        to = h.to;
-        down = h.down;
-        touched = touched;
-        clear = h.clear;
-        cost = λ n p. paid_half (omega arith) some less step (h.cost n p);
-      }
-
-  -- it isn't, and `next` is the place before it
-  end_apart : (held free middle next : ℤ) (now later : ℕ) → next ≡ middle -ℤ pos 1 → held ≤ℤ next → middle ≤ℤ free → (pos 2 *ℤ (next -ℤ held)) ≤ℤ (free -ℤ held) → later ≡ now + 1 → ¬ P middle
-      → EndSoFar P limit held free old now → EndSoFar P limit held next old later
-  end_apart held free middle next now later before from to half step apart h =
-      let some : 0 < nat_abs (free -ℤ held) = omega (arith, ints) in
-      let less : 2 * nat_abs (next -ℤ held) ≤ nat_abs (free -ℤ held) = omega (arith, ints) in
-      let least = h.from in
-      record {
-        from = h.from;
-        order = from;
-        to = omega (arith, ints);
-        down = h.down;
-        touched = h.touched;
-        clear = λ k a b t. apart (h.down middle k (omega (arith, ints)) (omega (arith, ints)) t);
-        cost = λ n p. paid_half (omega arith) some less step (h.cost n p);
-      }
-
--- the first position from `low` on, counted down from `found`: it is at most `first`, and at least `free`
-abbrev pub FirstSoFar : Cutter → Tri → Fiber → ℤ → ℤ → ℤ → ℤ → ℕ → ℕ → Type 0
-FirstSoFar cutter tri fiber low found free first old now = EndSoFar (λ k. IsTouched cutter tri fiber (found -ℤ k)) (found -ℤ low) (found -ℤ first) (found -ℤ free) old now
-
--- the last position up to `high`, counted up from `found`: it is at least `last`, and at most `free`
-abbrev pub LastSoFar : Cutter → Tri → Fiber → ℤ → ℤ → ℤ → ℤ → ℕ → ℕ → Type 0
-LastSoFar cutter tri fiber found high last free old now = EndSoFar (λ k. IsTouched cutter tri fiber (found +ℤ k)) (high -ℤ found) (last -ℤ found) (free -ℤ found) old now
 
 module _ (cutter : Cutter) (tri : Tri) (fiber : Fiber) where
   abbrev T : ℤ → Type 0
   T v = IsTouched cutter tri fiber v
-
-  pub first_starts : (low found : ℤ) {old : ℕ} → low ≤ℤ found → T found → FirstSoFar cutter tri fiber low found low found old old
-  first_starts low found {old} order held = end_starts (λ k. T (found -ℤ k)) (found -ℤ low) old (found -ℤ found) (omega (arith, ints)) (omega (arith, ints))
-      (λ k m a b t. touched_between cutter tri fiber (found -ℤ m) (found -ℤ k) found (omega (arith, ints)) (omega (arith, ints)) t held) (subst T (omega (arith, ints)) held)
-
-  pub first_inside : (low found free first middle : ℤ) {old now later : ℕ} → free ≤ℤ middle → middle ≤ℤ (first -ℤ pos 1)
-      → (pos 2 *ℤ (middle -ℤ free)) ≤ℤ ((first -ℤ pos 1) -ℤ free) → later ≡ now + 1 → T middle
-      → FirstSoFar cutter tri fiber low found free first old now → FirstSoFar cutter tri fiber low found free middle old later
-  first_inside low found free first middle {old} {now} {later} from to half step touched h =
-      end_inside (λ k. T (found -ℤ k)) (found -ℤ low) old (found -ℤ first) (found -ℤ free) (found -ℤ middle) now later (omega (arith, ints)) (omega (arith, ints)) (omega (arith, ints)) step
-      (subst T (omega (arith, ints)) touched) h
-
-  pub first_apart : (low found free first middle : ℤ) {old now later : ℕ} → free ≤ℤ middle → middle ≤ℤ (first -ℤ pos 1)
-      → (pos 2 *ℤ ((first -ℤ pos 1) -ℤ middle)) ≤ℤ (((first -ℤ pos 1) -ℤ free) +ℤ pos 1) → later ≡ now + 1 → ¬ T middle
-      → FirstSoFar cutter tri fiber low found free first old now → FirstSoFar cutter tri fiber low found (middle +ℤ pos 1) first old later
-  first_apart low found free first middle {old} {now} {later} from to half step apart h =
-      end_apart (λ k. T (found -ℤ k)) (found -ℤ low) old (found -ℤ first) (found -ℤ free) (found -ℤ middle) (found -ℤ (middle +ℤ pos 1)) now later
-      (omega (arith, ints)) (omega (arith, ints)) (omega (arith, ints)) (omega (arith, ints)) step (λ t. apart (subst T (omega (arith, ints)) t)) h
-
-  pub first_ends : (low found free first : ℤ) {old now : ℕ} → first ≤ℤ free → FirstSoFar cutter tri fiber low found free first old now
-      → IsHeld cutter tri fiber first found × IsClear cutter tri fiber low (first -ℤ pos 1)
-  first_ends low found free first done h = (
-    λ v a b. subst T (omega (arith, ints)) (h.down (found -ℤ v) (found -ℤ first) (omega (arith, ints)) (omega (arith, ints)) h.touched),
-    λ v a b t. h.clear (found -ℤ v) (omega (arith, ints)) (omega (arith, ints)) (subst T (omega (arith, ints)) t),
-  )
-
-  pub last_starts : (found high : ℤ) {old : ℕ} → found ≤ℤ high → T found → LastSoFar cutter tri fiber found high found high old old
-  last_starts found high {old} order held = end_starts (λ k. T (found +ℤ k)) (high -ℤ found) old (found -ℤ found) (omega (arith, ints)) (omega (arith, ints))
-      (λ k m a b t. touched_between cutter tri fiber found (found +ℤ k) (found +ℤ m) (omega (arith, ints)) (omega (arith, ints)) held t) (subst T (omega (arith, ints)) held)
-
-  pub last_inside : (found high last free middle : ℤ) {old now later : ℕ} → (last +ℤ pos 1) ≤ℤ middle → middle ≤ℤ free
-      → (pos 2 *ℤ (free -ℤ middle)) ≤ℤ ((free -ℤ (last +ℤ pos 1)) +ℤ pos 1) → later ≡ now + 1 → T middle
-      → LastSoFar cutter tri fiber found high last free old now → LastSoFar cutter tri fiber found high middle free old later
-  last_inside found high last free middle {old} {now} {later} from to half step touched h =
-      end_inside (λ k. T (found +ℤ k)) (high -ℤ found) old (last -ℤ found) (free -ℤ found) (middle -ℤ found) now later (omega (arith, ints)) (omega (arith, ints)) (omega (arith, ints)) step
-      (subst T (omega (arith, ints)) touched) h
-
-  pub last_apart : (found high last free middle : ℤ) {old now later : ℕ} → (last +ℤ pos 1) ≤ℤ middle → middle ≤ℤ free
-      → (pos 2 *ℤ (middle -ℤ (last +ℤ pos 1))) ≤ℤ (free -ℤ (last +ℤ pos 1)) → later ≡ now + 1 → ¬ T middle
-      → LastSoFar cutter tri fiber found high last free old now → LastSoFar cutter tri fiber found high last (middle -ℤ pos 1) old later
-  last_apart found high last free middle {old} {now} {later} from to half step apart h =
-      end_apart (λ k. T (found +ℤ k)) (high -ℤ found) old (last -ℤ found) (free -ℤ found) (middle -ℤ found) ((middle -ℤ pos 1) -ℤ found) now later
-      (omega (arith, ints)) (omega (arith, ints)) (omega (arith, ints)) (omega (arith, ints)) step (λ t. apart (subst T (omega (arith, ints)) t)) h
-
-  pub last_ends : (found high last free : ℤ) {old now : ℕ} → free ≤ℤ last → LastSoFar cutter tri fiber found high last free old now
-      → IsHeld cutter tri fiber found last × IsClear cutter tri fiber (last +ℤ pos 1) high
-  last_ends found high last free done h = (
-    λ v a b. subst T (omega (arith, ints)) (h.down (v -ℤ found) (last -ℤ found) (omega (arith, ints)) (omega (arith, ints)) h.touched),
-    λ v a b t. h.clear (v -ℤ found) (omega (arith, ints)) (omega (arith, ints)) (subst T (omega (arith, ints)) t),
-  )
 
   -- only the positions from `low` to `high` are left, and their count has been paid for
   pub record WindowSoFar (from to low high : ℤ) (old now : ℕ) : Type 0 where
@@ -208,17 +88,18 @@ module _ (cutter : Cutter) (tri : Tri) (fiber : Fiber) where
   window_ends {low = low} done h = λ v a b. by_lt_z v low (λ under. h.before v a (omega (arith, ints))) (λ over. h.beyond v (omega (arith, ints)) b)
 
   -- the middle is touched, and both ends are found from it
-  pub found_stretch : {from to low high : ℤ} (middle first last : ℤ) {old now : ℕ} → low ≤ℤ first → first ≤ℤ middle → middle ≤ℤ last → last ≤ℤ high
-      → IsHeld cutter tri fiber first middle → IsHeld cutter tri fiber middle last → IsClear cutter tri fiber low (first -ℤ pos 1) → IsClear cutter tri fiber (last +ℤ pos 1) high
+  pub found_stretch : {from to low high : ℤ} (middle first last : ℤ) {old now : ℕ} → IsFirstEnd cutter tri fiber low middle first → IsLastEnd cutter tri fiber middle high last
       → WindowSoFar from to low high old now → IsTouchedStretch cutter tri fiber from to (record { first = first; last = last })
-  found_stretch {low = low} {high} middle first last a b c d left right clear_left clear_right h = record {
-    after = omega (arith, ints);
-    some = omega (arith, ints);
-    within = omega (arith, ints);
-    touched = λ v u w. by_lt_z v middle (λ under. left v u (omega (arith, ints))) (λ over. right v over w);
-    before = λ v u w. by_lt_z v low (λ under. h.before v u (omega (arith, ints))) (λ over. clear_left v over (omega (arith, ints)));
-    beyond = λ v u w. by_lt_z high v (λ over. h.beyond v (omega (arith, ints)) w) (λ under. clear_right v (omega (arith, ints)) under);
-  }
+  found_stretch {low = low} {high} middle first last left right h =
+      let a = left.after in let b = left.before in let c = right.after in let d = right.before in
+      record {
+        after = omega (arith, ints);
+        some = omega (arith, ints);
+        within = omega (arith, ints);
+        touched = λ v u w. by_lt_z v middle (λ under. left.held v u (omega (arith, ints))) (λ over. right.held v over w);
+        before = λ v u w. by_lt_z v low (λ under. h.before v u (omega (arith, ints))) (λ over. left.clear v over (omega (arith, ints)));
+        beyond = λ v u w. by_lt_z high v (λ over. h.beyond v (omega (arith, ints)) w) (λ under. right.clear v (omega (arith, ints)) under);
+      }
 
   pub found_cost : {from to low high : ℤ} (middle : ℤ) {old now found first last : ℕ} (spare : ℕ) → low ≤ℤ middle → middle ≤ℤ high
       → (pos 2 *ℤ (middle -ℤ low)) ≤ℤ (high -ℤ low) → (pos 2 *ℤ (high -ℤ middle)) ≤ℤ ((high -ℤ low) +ℤ pos 1) → found ≡ now + 1
@@ -229,34 +110,11 @@ module _ (cutter : Cutter) (tri : Tri) (fiber : Fiber) where
       let after : 2 * nat_abs (high -ℤ middle) ≤ nat_abs ((high +ℤ pos 1) -ℤ low) = omega (arith, ints) in
       paid_ends spare (some_left low high (omega (arith, ints))) before after step to_left to_right (h.cost n p)
 
--- what isn't touched at a position, by whichever side it is told
-pub apart_here : (s : Side) (T : ℤ → Type 0) (v : ℤ) → IsOnSide s (λ t. T (v +ℤ t)) → ¬ T v
-apart_here s T v h t = by s h
-  where
-    here : T (v +ℤ pos 0)
-    here = subst T (omega (arith, ints)) t
-
-    by : (s : Side) → IsOnSide s (λ t. T (v +ℤ t)) → ⊥
-    by Less h = h (pos 0) (omega (arith, ints)) here
-    by More h = h (pos 0) (omega (arith, ints)) here
-    by Never h = h (pos 0) here
-
+-- what is touched no positions from one is touched there
 pub touched_here : (T : ℤ → Type 0) (v : ℤ) → T (v +ℤ pos 0) → T v
 touched_here T v t = subst T (omega (arith, ints)) t
 
 -- the positions that are left become fewer
-pub fewer_before : (free first middle : ℤ) → free ≤ℤ middle → middle ≤ℤ (first -ℤ pos 1) → nat_abs (middle -ℤ free) < nat_abs (first -ℤ free)
-fewer_before free first middle a b = omega (arith, ints)
-
-pub fewer_after : (free first middle : ℤ) → free ≤ℤ middle → middle ≤ℤ (first -ℤ pos 1) → nat_abs (first -ℤ (middle +ℤ pos 1)) < nat_abs (first -ℤ free)
-fewer_after free first middle a b = omega (arith, ints)
-
-pub fewer_past : (last free middle : ℤ) → (last +ℤ pos 1) ≤ℤ middle → middle ≤ℤ free → nat_abs (free -ℤ middle) < nat_abs (free -ℤ last)
-fewer_past last free middle a b = omega (arith, ints)
-
-pub fewer_up_to : (last free middle : ℤ) → (last +ℤ pos 1) ≤ℤ middle → middle ≤ℤ free → nat_abs ((middle -ℤ pos 1) -ℤ last) < nat_abs (free -ℤ last)
-fewer_up_to last free middle a b = omega (arith, ints)
-
 pub fewer_low : (low high middle : ℤ) → low ≤ℤ middle → middle ≤ℤ high → nat_abs (((middle -ℤ pos 1) +ℤ pos 1) -ℤ low) < nat_abs ((high +ℤ pos 1) -ℤ low)
 fewer_low low high middle a b = omega (arith, ints)
 
@@ -303,16 +161,17 @@ module _ (cutter : Cutter) (tri : Tri) (fiber : Fiber) (from to start : ℤ) whe
   }
 
   -- it is touched at `start`, and both ends are found from there
-  pub start_found : (first last : ℤ) → from ≤ℤ first → first ≤ℤ start → start ≤ℤ last → last ≤ℤ to → IsHeld cutter tri fiber first start → IsHeld cutter tri fiber start last
-      → IsClear cutter tri fiber from (first -ℤ pos 1) → IsClear cutter tri fiber (last +ℤ pos 1) to → IsTouchedStretch cutter tri fiber from to (record { first = first; last = last })
-  start_found first last a b c d left right clear_left clear_right = record {
-    after = a;
-    some = omega (arith, ints);
-    within = d;
-    touched = λ v u w. by_lt_z v start (λ under. left v u (omega (arith, ints))) (λ over. right v over w);
-    before = λ v u w. clear_left v u (omega (arith, ints));
-    beyond = λ v u w. clear_right v (omega (arith, ints)) w;
-  }
+  pub start_found : (first last : ℤ) → IsFirstEnd cutter tri fiber from start first → IsLastEnd cutter tri fiber start to last → IsTouchedStretch cutter tri fiber from to (record { first = first; last = last })
+  start_found first last left right =
+      let b = left.before in let c = right.after in
+      record {
+        after = left.after;
+        some = omega (arith, ints);
+        within = right.before;
+        touched = λ v u w. by_lt_z v start (λ under. left.held v u (omega (arith, ints))) (λ over. right.held v over w);
+        before = λ v u w. left.clear v u (omega (arith, ints));
+        beyond = λ v u w. right.clear v (omega (arith, ints)) w;
+      }
 
 -- the touch at `start`, and those of the searches that follow it
 pub start_found_cost : (from to start : ℤ) (old now first last spare : ℕ) → from ≤ℤ start → start ≤ℤ to → now ≡ old + 1 → ((k : ℕ) → nat_abs (start -ℤ from) < 2 ^ k → first ≤ now + (k + spare))

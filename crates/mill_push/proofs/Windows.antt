@@ -14,8 +14,8 @@ use Rattle.mill_base.specs.declared.points.Tri.{Tri}
 use Rattle.mill_base.specs.declared.cutter.Cutter.{Cutter}
 use Rattle.mill_base.proofs.Integers.{one-mul-ℤ}
 use Rattle.mill_shape.proofs.Holding.{IsAround, holds_over_tip}
-use Rattle.mill_extent.specs.Extents.{IsExtentOver, IsPlaceIn, place_along}
-use Rattle.mill_extent.specs.declared.extent.Extent.{Extent}
+use Rattle.mill_geom.specs.Extents.{IsExtentOver, IsPlaceIn, place_along}
+use Rattle.mill_geom.specs.declared.extent.Extent.{Extent}
 use Rattle.mill_geom.specs.declared.touch.Axis.{Axis}
 use Rattle.mill_geom.specs.declared.touch.Axis.TheVariants.{X, Y}
 use Rattle.mill_push.specs.declared.fiber.Fiber.{Fiber}

@@ -9,8 +9,8 @@ ghost use Rattle.mill_push.specs.inner.Pushers.{IsPusher};
 use crate::fiber::Run;
 use crate::stretch::Pusher;
 use mill_base::{Steps, Tri};
-use mill_ends::Aims;
 use mill_geom::{Side, Touch};
+use mill_hints::Aims;
 use std::sync::ledger::Ledger;
 
 impl Pusher {
@@ -31,8 +31,10 @@ impl Pusher {
         requires tri_ok { TriInRange tri.now }
         requires rest_ok { IsRunInRange rest }
         requires inside { IsInside rest run }
-        ensures stretch { IsNewAnswer self.cutter tri.now self.fiber rest.first rest.last (run ∷ []) result }
-        ensures cost { (n : ℕ) → position_count rest.first rest.last < 2 ^ n → steps.new ≤ steps.old + (2 + 2 * n + 2 * aims.probes) }
+        ensures stretch { IsNewAnswer self.cutter tri.now self.fiber rest.first rest.last (run ∷
+            []) result }
+        ensures cost { (n : ℕ) → position_count rest.first rest.last < 2 ^ n →
+            steps.new ≤ steps.old + (2 + 2 * n + 2 * aims.probes) }
     {
         let before = run.first - 1;
         let after = run.last + 1;
@@ -65,8 +67,10 @@ impl Pusher {
         requires rest_ok { IsRunInRange rest }
         requires inside { IsInside rest run }
         requires held { IsTouched self.cutter tri.now self.fiber (run.last +ℤ pos 1) }
-        ensures stretch { IsNewStretch self.cutter tri.now self.fiber rest.first rest.last (run ∷ []) result }
-        ensures cost { (n : ℕ) → position_count rest.first rest.last < 2 ^ n → steps.new ≤ steps.old + (1 + 2 * n + 2 * aims.probes) }
+        ensures stretch { IsNewStretch self.cutter tri.now self.fiber rest.first rest.last (run ∷
+            []) result }
+        ensures cost { (n : ℕ) → position_count rest.first rest.last < 2 ^ n →
+            steps.new ≤ steps.old + (1 + 2 * n + 2 * aims.probes) }
     {
         let before = run.first - 1;
         let after = run.last + 1;

@@ -2,7 +2,6 @@ ghost use Rattle.std.specs.Prelude.{◌≡◌, ◌+◌, ◌*◌, ◌^◌, ◌<�
 ghost use Rattle.mill_base.specs.Numbers.{Within};
 ghost use Rattle.mill_base.specs.declared.limits.TheConstants.{MAX_COORDINATE};
 ghost use Rattle.mill_base.specs.Ranges.{TriInRange};
-ghost use Rattle.mill_cells.specs.Sorted.{sorted_of};
 ghost use Rattle.mill_push.specs.inner.Known.{IsNewAnswer};
 ghost use Rattle.mill_push.specs.inner.Pushers.{IsPusher};
 ghost use Rattle.mill_push.specs.inner.Reaches.{IsReachForPart};
@@ -15,10 +14,9 @@ use crate::known::Known;
 use crate::start::{middle_of, spare_touches, start_in};
 use crate::stretch::Pusher;
 use mill_base::{Box2, Steps, Tri, WantOfMemory};
-use mill_cells::Cells;
-use mill_ends::{Aims, Ends};
 use mill_geom::Axis;
-use mill_part::Part;
+use mill_hints::{Aims, Ends};
+use mill_part::SortedPart;
 use std::alloc::Global;
 use std::sync::ledger::Ledger;
 
@@ -70,7 +68,8 @@ impl Pusher {
         requires to_ok { Within MAX_COORDINATE to }
         requires order { from ≤ℤ to }
         requires known { AreSpans from to known.now.runs.items }
-        ensures stretch { IsNewAnswer self.cutter tri.now self.fiber from to known.now.runs.items result }
+        ensures stretch { IsNewAnswer self.cutter tri.now self.fiber from to known.now.runs.items
+            result }
         ensures cost { (n : ℕ) → position_count from to < 2 ^ n → steps.new ≤ steps.old + 2 * n }
     {
         let window = self.window(tri, from, to);
@@ -96,8 +95,7 @@ impl Pusher {
     pub fn stretches<L: Ledger>(
         self,
         alloc: Global,
-        part: &Part,
-        cells: &Cells,
+        part: &SortedPart,
         from: i32,
         to: i32,
         ends: &mut Ends,
@@ -105,16 +103,16 @@ impl Pusher {
     ) -> Result<Vec<Run>, WantOfMemory>
         requires self_ok { IsPusher self }
         requires reach_ok { IsReachForPart self.cutter self.fiber.z self.reach part.now }
-        requires cells_ok { cells.now ≡ sorted_of part.now }
         requires from_ok { Within MAX_COORDINATE from }
         requires to_ok { Within MAX_COORDINATE to }
         requires order { from ≤ℤ to }
-        ensures stretches { IfOk result (λ runs. AreStretches (IsCutterBlocked self.cutter part.now self.fiber) from to runs.items) }
+        ensures stretches { IfOk result (λ runs. AreStretches (IsCutterBlocked self.cutter
+            part.now self.fiber) from to runs.items) }
         ensures cost { TouchesFew self.cutter part.now self.fiber from to steps.old steps.new }
     {
-        let tris = part.tris();
+        let tris = part.part().tris();
         let mut known = Known::new(alloc, from, to)?;
-        let mut near = cells.near_rising(self.strip(from, to));
+        let mut near = part.cells().near_rising(self.strip(from, to));
         while let Some(number) = near.next_over(self.fiber.z) {
             let tri = &tris[number as usize];
             let Some(stretch) = self.new_stretch(tri, number, from, to, &known, ends, steps) else {

@@ -1,16 +1,15 @@
 //! The search for an end of a triangle's stretch, with a few touches near where it is expected.
-ghost use Rattle.std.specs.Prelude.{◌≡◌, ◌+◌, ◌^◌, ◌<◌, ◌≤◌, ◌≤ℤ◌, ◌<ℤ◌, ◌+ℤ◌, ◌-ℤ◌, ℕ, pos, nat_abs, false};
+ghost use Rattle.std.specs.Prelude.{◌≡◌, ◌+◌, ◌^◌, ◌<◌, ◌≤◌, ◌≤ℤ◌, ◌<ℤ◌, ◌+ℤ◌, ◌-ℤ◌, ◌*ℤ◌, ℕ, pos, nat_abs, false};
 ghost use Rattle.mill_base.specs.Numbers.{Within};
 ghost use Rattle.mill_base.specs.declared.limits.TheConstants.{MAX_COORDINATE};
 ghost use Rattle.mill_base.specs.Ranges.{TriInRange};
 ghost use Rattle.mill_push.specs.Fibers.{IsTouched};
-ghost use Rattle.mill_push.specs.Stretches.{IsClear, IsHeld};
-ghost use Rattle.mill_push.specs.inner.Probes.{IsLeft, IsSearch, place_in};
-ghost use Rattle.mill_push.specs.inner.Pushers.{IsBetween, IsPusher};
+ghost use Rattle.mill_push.specs.inner.Probes.{IsCut, IsFirstEnd, IsLastEnd, IsLeft, IsSearch, left_of, place_in};
+ghost use Rattle.mill_push.specs.inner.Pushers.{IsPusher};
 
-use crate::stretch::Pusher;
+use crate::stretch::{Pusher, middle};
 use mill_base::{Steps, Tri};
-use mill_ends::{Aim, Aims};
+use mill_hints::{Aim, Aims};
 use std::sync::ledger::Ledger;
 
 /// The two ways along a fiber.
@@ -80,7 +79,7 @@ impl Left {
 }
 
 impl Pusher {
-    /// The same as `first_touched`, with the touches near the aim besides.
+    /// The first position from `low` on at which the triangle is touched, where it is at `found`.
     pub fn first_near<L: Ledger>(
         self,
         tri: &Tri,
@@ -95,10 +94,9 @@ impl Pusher {
         requires found_ok { Within MAX_COORDINATE found }
         requires order { low ≤ℤ found }
         requires held { IsTouched self.cutter tri.now self.fiber found }
-        ensures between { IsBetween low found result }
-        ensures held { IsHeld self.cutter tri.now self.fiber result found }
-        ensures clear { IsClear self.cutter tri.now self.fiber low (result -ℤ pos 1) }
-        ensures cost { (n : ℕ) → nat_abs (found -ℤ low) < 2 ^ n → steps.new ≤ steps.old + (n + aims.probes) }
+        ensures end { IsFirstEnd self.cutter tri.now self.fiber low found result }
+        ensures cost { (n : ℕ) → nat_abs (found -ℤ low) < 2 ^ n →
+            steps.new ≤ steps.old + (n + aims.probes) }
     {
         let search = Search {
             way: Way::Back,
@@ -107,12 +105,11 @@ impl Pusher {
         };
         let aim = aims.first.back_from(found);
         let left = self.near_end(tri, search, aim, aims.probes, steps);
-        let first = search.place(left.free);
-        let held = search.place(left.held);
-        self.first_touched(tri, first, held, steps)
+        let count = self.halved(tri, search, left, steps);
+        search.place(count)
     }
 
-    /// The same as `last_touched`, with the touches near the aim besides.
+    /// The last position up to `high` at which the triangle is touched, where it is at `found`.
     pub fn last_near<L: Ledger>(
         self,
         tri: &Tri,
@@ -127,9 +124,7 @@ impl Pusher {
         requires high_ok { Within MAX_COORDINATE high }
         requires order { found ≤ℤ high }
         requires held { IsTouched self.cutter tri.now self.fiber found }
-        ensures between { IsBetween found high result }
-        ensures held { IsHeld self.cutter tri.now self.fiber found result }
-        ensures clear { IsClear self.cutter tri.now self.fiber (result +ℤ pos 1) high }
+        ensures end { IsLastEnd self.cutter tri.now self.fiber found high result }
         ensures cost { (n : ℕ) → nat_abs (high -ℤ found) < 2 ^ n → steps.new ≤ steps.old + (n + aims.probes) }
     {
         let search = Search {
@@ -139,9 +134,8 @@ impl Pusher {
         };
         let aim = aims.last.on_from(found);
         let left = self.near_end(tri, search, aim, aims.probes, steps);
-        let held = search.place(left.held);
-        let last = search.place(left.free);
-        self.last_touched(tri, held, last, steps)
+        let count = self.halved(tri, search, left, steps);
+        search.place(count)
     }
 
     /// What is left of a search after touches near the aim, if there is one: from there on as long as
@@ -174,14 +168,31 @@ impl Pusher {
             if left.is_closed(search.limit) {
                 return left;
             }
-            left = self.probe(tri, search, left, at, steps);
+            left = self.probe(tri, search, left, left.nearest(at), steps);
             at = left.next(stride);
             stride = stride.saturating_add(stride);
         }
         left
     }
 
-    /// What is left after a touch as near to a position as it may be.
+    /// The count of the end, from what is left of its search: each touch is in the middle.
+    fn halved<L: Ledger>(self, tri: &Tri, search: Search, rest: Left, steps: &mut Steps<L>) -> i32
+        requires self_ok { IsPusher self }
+        requires tri_ok { TriInRange tri.now }
+        requires search_ok { IsSearch search }
+        requires rest_ok { IsLeft self.cutter tri.now self.fiber search rest }
+        ensures end { IsLeft self.cutter tri.now self.fiber search (left_of result result) }
+        ensures cost { (n : ℕ) → nat_abs (rest.free -ℤ rest.held) < 2 ^ n → steps.new ≤ steps.old + n }
+    {
+        let mut left = rest;
+        while left.held < left.free {
+            let at = middle(left.held + 1, left.free);
+            left = self.probe(tri, search, left, at, steps);
+        }
+        left.held
+    }
+
+    /// What is left after a touch at a count that is still open.
     fn probe<L: Ledger>(
         self,
         tri: &Tri,
@@ -194,11 +205,12 @@ impl Pusher {
         requires tri_ok { TriInRange tri.now }
         requires search_ok { IsSearch search }
         requires left_ok { IsLeft self.cutter tri.now self.fiber search left }
-        requires open { left.held <ℤ left.free }
+        requires after { left.held <ℤ at }
+        requires within { at ≤ℤ left.free }
         ensures left { IsLeft self.cutter tri.now self.fiber search result }
+        ensures cut { IsCut left at result }
         ensures step { steps.new ≡ steps.old + 1 }
     {
-        let at = left.nearest(at);
         if self.is_touched(tri, search.place(at), steps) {
             Left {
                 held: at,

@@ -2,7 +2,6 @@ ghost use Rattle.std.specs.Prelude.{◌≡◌, ◌+◌, ◌*◌, ◌≤◌, ◌�
 ghost use Rattle.mill_base.specs.Numbers.{Within};
 ghost use Rattle.mill_base.specs.declared.limits.TheConstants.{MAX_COORDINATE};
 ghost use Rattle.mill_base.specs.Tools.{IsTool};
-ghost use Rattle.mill_cells.specs.Sorted.{sorted_of};
 ghost use Rattle.mill_push.specs.Runs.{AreRuns};
 ghost use Rattle.mill_push.specs.Touches.{IsFiber, ToolTouchesFew, most_touches};
 
@@ -10,9 +9,8 @@ use crate::fiber::{Fiber, Run};
 use crate::solids::tool_stretches;
 use crate::union::union;
 use mill_base::{Steps, Tool, WantOfMemory};
-use mill_cells::Cells;
-use mill_ends::Ends;
-use mill_part::Part;
+use mill_hints::Ends;
+use mill_part::SortedPart;
 use std::alloc::Global;
 use std::sync::ledger::Ledger;
 
@@ -20,22 +18,19 @@ use std::sync::ledger::Ledger;
 /// the part, ascending: a part point is strictly inside the cutter, whose tip is on the fiber, or
 /// strictly inside its holder.
 ///
-/// `cells` are those of the part's triangles, and `steps` counts the touches: at most 40 of the
-/// cutter for each triangle, and none of one that isn't near the fiber or isn't over its height;
-/// then as many of the holder, near the fiber that is higher by its stickout. Lengths are in units,
-/// of at most `MAX_COORDINATE` in magnitude. The only error is want of memory; the touches made
-/// before it are counted.
+/// `steps` counts the touches: at most 40 of the cutter for each triangle, and none of one that isn't
+/// near the fiber or isn't over its height; then as many of the holder, near the fiber that is higher
+/// by its stickout. Lengths are in units, of at most `MAX_COORDINATE` in magnitude. The only error is
+/// want of memory; the touches made before it are counted.
 pub fn push<L: Ledger>(
     alloc: Global,
-    part: &Part,
-    cells: &Cells,
+    part: &SortedPart,
     tool: &Tool,
     fiber: Fiber,
     from: i32,
     to: i32,
     steps: &mut Steps<L>,
 ) -> Result<Vec<Run>, WantOfMemory>
-    requires cells_ok { cells.now ≡ sorted_of part.now }
     requires tool_ok { IsTool tool.now }
     requires fiber_ok { IsFiber fiber }
     requires from_ok { Within MAX_COORDINATE from }
@@ -46,7 +41,7 @@ pub fn push<L: Ledger>(
     ensures near { ToolTouchesFew tool.now part.now fiber from to steps.old steps.new }
 {
     let mut ends = Ends::none(alloc);
-    push_after(alloc, part, cells, tool, fiber, from, to, &mut ends, steps)
+    push_after(alloc, part, tool, fiber, from, to, &mut ends, steps)
 }
 
 /// The same as `push`, after other pushes of the same cutter along fibers beside this one: it looks for
@@ -56,8 +51,7 @@ pub fn push<L: Ledger>(
 /// `ends` is for the part's count of triangles. Whatever it holds, the runs are the same.
 pub fn push_after<L: Ledger>(
     alloc: Global,
-    part: &Part,
-    cells: &Cells,
+    part: &SortedPart,
     tool: &Tool,
     fiber: Fiber,
     from: i32,
@@ -65,7 +59,6 @@ pub fn push_after<L: Ledger>(
     ends: &mut Ends,
     steps: &mut Steps<L>,
 ) -> Result<Vec<Run>, WantOfMemory>
-    requires cells_ok { cells.now ≡ sorted_of part.now }
     requires tool_ok { IsTool tool.now }
     requires fiber_ok { IsFiber fiber }
     requires from_ok { Within MAX_COORDINATE from }
@@ -76,7 +69,7 @@ pub fn push_after<L: Ledger>(
     ensures near { ToolTouchesFew tool.now part.now fiber from to steps.old steps.new }
 {
     ends.next_turn();
-    let mut stretches = tool_stretches(alloc, part, cells, tool, fiber, from, to, ends, steps)?;
+    let mut stretches = tool_stretches(alloc, part, tool, fiber, from, to, ends, steps)?;
     stretches.sort_by_key(|stretch| stretch.first)?;
     union(alloc, &stretches)
 }

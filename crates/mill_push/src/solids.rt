@@ -5,7 +5,6 @@ ghost use Rattle.mill_base.specs.Numbers.{Within};
 ghost use Rattle.mill_base.specs.declared.limits.TheConstants.{MAX_COORDINATE};
 ghost use Rattle.mill_base.specs.Sizes.{IsCutter};
 ghost use Rattle.mill_base.specs.Tools.{IsHolder, IsTool, solid_of};
-ghost use Rattle.mill_cells.specs.Sorted.{sorted_of};
 ghost use Rattle.mill_push.specs.Fibers.{IsBlocked};
 ghost use Rattle.mill_push.specs.Touches.{IsFiber, ToolTouchesFew, TouchesFew, lifted};
 ghost use Rattle.mill_push.specs.inner.Solids.{IsCutterBlocked};
@@ -15,9 +14,8 @@ use crate::fiber::{Fiber, Run};
 use crate::reach::reach_over;
 use crate::stretch::Pusher;
 use mill_base::{Cutter, Holder, Steps, Tool, WantOfMemory};
-use mill_cells::Cells;
-use mill_ends::Ends;
-use mill_part::Part;
+use mill_hints::Ends;
+use mill_part::{Part, SortedPart};
 use std::alloc::Global;
 use std::sync::ledger::Ledger;
 
@@ -25,8 +23,7 @@ use std::sync::ledger::Ledger;
 /// those of the cutter, whose ends are kept, then those of the holder.
 pub fn tool_stretches<L: Ledger>(
     alloc: Global,
-    part: &Part,
-    cells: &Cells,
+    part: &SortedPart,
     tool: &Tool,
     fiber: Fiber,
     from: i32,
@@ -34,7 +31,6 @@ pub fn tool_stretches<L: Ledger>(
     ends: &mut Ends,
     steps: &mut Steps<L>,
 ) -> Result<Vec<Run>, WantOfMemory>
-    requires cells_ok { cells.now ≡ sorted_of part.now }
     requires tool_ok { IsTool tool.now }
     requires fiber_ok { IsFiber fiber }
     requires from_ok { Within MAX_COORDINATE from }
@@ -43,21 +39,11 @@ pub fn tool_stretches<L: Ledger>(
     ensures stretches { IfOk result (λ runs. AreStretches (IsBlocked tool.now part.now fiber) from to runs.items) }
     ensures cost { ToolTouchesFew tool.now part.now fiber from to steps.old steps.new }
 {
-    let mut stretches = solid_stretches(
-        alloc,
-        part,
-        cells,
-        tool.cutter,
-        fiber,
-        from,
-        to,
-        ends,
-        steps,
-    )?;
+    let mut stretches = solid_stretches(alloc, part, tool.cutter, fiber, from, to, ends, steps)?;
     let Some(holder) = tool.holder else {
         return Ok(stretches);
     };
-    let others = holder_stretches(alloc, part, cells, holder, fiber, from, to, steps)?;
+    let others = holder_stretches(alloc, part, holder, fiber, from, to, steps)?;
     stretches.extend_from_slice(&others)?;
     Ok(stretches)
 }
@@ -66,15 +52,13 @@ pub fn tool_stretches<L: Ledger>(
 /// whole part has none.
 fn holder_stretches<L: Ledger>(
     alloc: Global,
-    part: &Part,
-    cells: &Cells,
+    part: &SortedPart,
     holder: Holder,
     fiber: Fiber,
     from: i32,
     to: i32,
     steps: &mut Steps<L>,
 ) -> Result<Vec<Run>, WantOfMemory>
-    requires cells_ok { cells.now ≡ sorted_of part.now }
     requires holder_ok { IsHolder holder }
     requires fiber_ok { IsFiber fiber }
     requires from_ok { Within MAX_COORDINATE from }
@@ -84,14 +68,13 @@ fn holder_stretches<L: Ledger>(
     ensures cost { TouchesFew (solid_of holder) part.now (lifted holder fiber) from to steps.old steps.new }
 {
     let fiber = lift(fiber, holder);
-    if is_over_all(part, fiber.z) {
+    if is_over_all(part.part(), fiber.z) {
         return Ok(Vec::new(alloc));
     }
     let mut ends = Ends::none(alloc);
     solid_stretches(
         alloc,
         part,
-        cells,
         holder.solid(),
         fiber,
         from,
@@ -104,8 +87,7 @@ fn holder_stretches<L: Ledger>(
 /// The stretches of one solid, whose tip is on the fiber.
 fn solid_stretches<L: Ledger>(
     alloc: Global,
-    part: &Part,
-    cells: &Cells,
+    part: &SortedPart,
     solid: Cutter,
     fiber: Fiber,
     from: i32,
@@ -113,7 +95,6 @@ fn solid_stretches<L: Ledger>(
     ends: &mut Ends,
     steps: &mut Steps<L>,
 ) -> Result<Vec<Run>, WantOfMemory>
-    requires cells_ok { cells.now ≡ sorted_of part.now }
     requires solid_ok { IsCutter solid }
     requires fiber_ok { IsFiber fiber }
     requires from_ok { Within MAX_COORDINATE from }
@@ -122,13 +103,13 @@ fn solid_stretches<L: Ledger>(
     ensures stretches { IfOk result (λ runs. AreStretches (IsCutterBlocked solid part.now fiber) from to runs.items) }
     ensures cost { TouchesFew solid part.now fiber from to steps.old steps.new }
 {
-    let reach = reach_over(part, solid, fiber.z);
+    let reach = reach_over(part.part(), solid, fiber.z);
     let pusher = Pusher {
         cutter: solid,
         fiber,
         reach,
     };
-    pusher.stretches(alloc, part, cells, from, to, ends, steps)
+    pusher.stretches(alloc, part, from, to, ends, steps)
 }
 
 /// The fiber of the holder's tip, where the cutter's is on this one.

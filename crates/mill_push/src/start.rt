@@ -5,7 +5,7 @@ ghost use Rattle.mill_base.specs.declared.limits.TheConstants.{MAX_COORDINATE};
 ghost use Rattle.mill_push.specs.inner.Known.{HasRoom, IsAt, IsRunInRange};
 
 use crate::fiber::Run;
-use mill_ends::Aims;
+use mill_hints::Aims;
 
 /// How many touches near the aim of each end a triangle may take besides those of a search by halves
 /// in the rest of its window, and one at the start: the fewer positions of those from `from` to `to`

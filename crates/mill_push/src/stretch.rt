@@ -4,16 +4,16 @@ ghost use Rattle.mill_base.specs.declared.limits.TheConstants.{MAX_COORDINATE};
 ghost use Rattle.mill_base.specs.Ranges.{TriInRange};
 ghost use Rattle.mill_geom.specs.Sides.{IsTouch};
 ghost use Rattle.mill_push.specs.Fibers.{IsTouched, tip_on};
-ghost use Rattle.mill_push.specs.inner.Pushers.{IsBetween, IsPusher};
-ghost use Rattle.mill_push.specs.Stretches.{IsClear, IsHeld, IsStretchAnswer};
+ghost use Rattle.mill_push.specs.inner.Pushers.{IsPusher};
+ghost use Rattle.mill_push.specs.Stretches.{IsStretchAnswer};
 ghost use Rattle.mill_push.specs.Touches.{position_count};
 
 use crate::contact::counted_touch;
 use crate::fiber::{Fiber, Run};
 use crate::inside::counted_inside;
 use mill_base::{Cutter, Pt3, Steps, Tri};
-use mill_ends::Aims;
 use mill_geom::{Axis, Side, Touch};
+use mill_hints::Aims;
 use std::sync::ledger::Ledger;
 
 /// A cutter that is pushed along a fiber.
@@ -69,70 +69,6 @@ impl Pusher {
         ensures step { steps.new ≡ steps.old + 1 }
     {
         counted_inside(tri, self.cutter, self.fiber.tip(at), steps)
-    }
-
-    /// The first position from `low` on at which the triangle is touched, where it is at `found`.
-    pub fn first_touched<L: Ledger>(
-        self,
-        tri: &Tri,
-        low: i32,
-        found: i32,
-        steps: &mut Steps<L>,
-    ) -> i32
-        requires self_ok { IsPusher self }
-        requires tri_ok { TriInRange tri.now }
-        requires low_ok { Within MAX_COORDINATE low }
-        requires found_ok { Within MAX_COORDINATE found }
-        requires order { low ≤ℤ found }
-        requires held { IsTouched self.cutter tri.now self.fiber found }
-        ensures between { IsBetween low found result }
-        ensures held { IsHeld self.cutter tri.now self.fiber result found }
-        ensures clear { IsClear self.cutter tri.now self.fiber low (result -ℤ pos 1) }
-        ensures cost { (n : ℕ) → nat_abs (found -ℤ low) < 2 ^ n → steps.new ≤ steps.old + n }
-    {
-        let mut free = low;
-        let mut first = found;
-        while free < first {
-            let middle = middle(free, first - 1);
-            if self.is_touched(tri, middle, steps) {
-                first = middle;
-            } else {
-                free = middle + 1;
-            }
-        }
-        first
-    }
-
-    /// The last position up to `high` at which the triangle is touched, where it is at `found`.
-    pub fn last_touched<L: Ledger>(
-        self,
-        tri: &Tri,
-        found: i32,
-        high: i32,
-        steps: &mut Steps<L>,
-    ) -> i32
-        requires self_ok { IsPusher self }
-        requires tri_ok { TriInRange tri.now }
-        requires found_ok { Within MAX_COORDINATE found }
-        requires high_ok { Within MAX_COORDINATE high }
-        requires order { found ≤ℤ high }
-        requires held { IsTouched self.cutter tri.now self.fiber found }
-        ensures between { IsBetween found high result }
-        ensures held { IsHeld self.cutter tri.now self.fiber found result }
-        ensures clear { IsClear self.cutter tri.now self.fiber (result +ℤ pos 1) high }
-        ensures cost { (n : ℕ) → nat_abs (high -ℤ found) < 2 ^ n → steps.new ≤ steps.old + n }
-    {
-        let mut last = found;
-        let mut free = high;
-        while last < free {
-            let middle = middle(last + 1, free);
-            if self.is_touched(tri, middle, steps) {
-                last = middle;
-            } else {
-                free = middle - 1;
-            }
-        }
-        last
     }
 
     /// The positions from `from` to `to` at which the triangle is touched: one run, or none.
@@ -219,9 +155,9 @@ impl Pusher {
 
 /// The middle of the positions from `low` to `high`: at most half of them are before it, and at most
 /// half after it.
-fn middle(low: i32, high: i32) -> i32
-    requires low_ok { Within MAX_COORDINATE low }
-    requires high_ok { Within MAX_COORDINATE high }
+pub fn middle(low: i32, high: i32) -> i32
+    requires low_ok { Within (2 * MAX_COORDINATE) low }
+    requires high_ok { Within (2 * MAX_COORDINATE) high }
     requires order { low ≤ℤ high }
     ensures from { low ≤ℤ result }
     ensures to { result ≤ℤ high }

@@ -12,8 +12,7 @@ use crate::fiber::Run;
 use crate::reach::reach_up_to;
 use crate::stretch::Pusher;
 use mill_base::{Pt3, Tri};
-use mill_extent::extent_over;
-use mill_geom::Axis;
+use mill_geom::{Axis, extent_over};
 
 impl Pusher {
     /// The positions from `from` to `to` at which what the triangle has over the fiber's height is

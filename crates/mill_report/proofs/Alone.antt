@@ -8,7 +8,7 @@ use Rattle.mill_base.specs.declared.motion.Kind.TheVariants.{Rapid, Feed}
 use Rattle.mill_base.specs.Points.{point_tri, tri_at}
 use Rattle.mill_base.specs.declared.tool.Holder.{Holder as OneHolder}
 use Rattle.mill_sweep.specs.declared.leaf.Leaf.{Leaf}
-use Rattle.mill_job.specs.declared.job.Job.{Job}
+use Rattle.mill_job.specs.declared.fields.JobFields.{JobFields}
 use Rattle.mill_dexel.specs.Tops.{Stock, top_point_on, uncut}
 use Rattle.mill_dexel.specs.Turns.{move_at}
 use Rattle.mill_verify.specs.Tests.{GoodBefore, IsGood, IsGoodOn, stock_met}
@@ -37,7 +37,7 @@ renumbered (HolderStock k j i leaf) = refl
 renumbered (Left j i top) = refl
 
 -- a move fails alone for one reason
-pub one_failure : (job : Job) (part : List Tri) (stock : Stock) (m : Move) (r s : Reason) → FailsAlone job part stock m r → FailsAlone job part stock m s → move_of r ≡ move_of s → r ≡ s
+pub one_failure : (job : JobFields) (part : List Tri) (stock : Stock) (m : Move) (r s : Reason) → FailsAlone job part stock m r → FailsAlone job part stock m s → move_of r ≡ move_of s → r ≡ s
 one_failure job part stock m r s h g e =
     sym (renumbered r)
     ∙ ap (λ (x : Reason). numbered (move_of r) x) (one_reason job part stock (m ∷ []) (numbered 0 r) (numbered 0 s) h.rejects g.rejects)
@@ -54,7 +54,7 @@ still_of_move (Cut k j i leaf) h = h
 still_of_move (HolderStock k j i leaf) h = h
 still_of_move (Left j i top) h = h
 
-pub alone_fails : (job : Job) (part : List Tri) (stock : Stock) (m : Move) (r : Reason) → FailsAlone job part stock m r → ¬ IsGoodOn job part stock (m ∷ []) 0
+pub alone_fails : (job : JobFields) (part : List Tri) (stock : Stock) (m : Move) (r : Reason) → FailsAlone job part stock m r → ¬ IsGoodOn job part stock (m ∷ []) 0
 alone_fails job part stock m r h good = moves_fail job part stock (m ∷ []) (numbered 0 r) (still_of_move r h.of_move) h.rejects each
   where
     each : (e : ℕ) → e < 1 → IsGoodOn job part stock (m ∷ []) e
@@ -62,7 +62,7 @@ alone_fails job part stock m r h good = moves_fail job part stock (m ∷ []) (nu
     each (suc e) less = absurd (omega (less, arith))
 
 -- ---- as one of a program's moves
-module _ (job : Job) (part : List Tri) (moves : List Move) where
+module _ (job : JobFields) (part : List Tri) (moves : List Move) where
   abbrev met : ℕ → Stock
   met k = stock_met job (uncut job) moves k
 

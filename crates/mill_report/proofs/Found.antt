@@ -4,7 +4,7 @@ use Rattle.std.proofs.Common.{sym, subst}
 use Rattle.std.proofs.lemmas.List.Elements.{All-nil, All-push}
 use Rattle.mill_base.specs.declared.points.Tri.{Tri}
 use Rattle.mill_base.specs.declared.motion.Move.{Move}
-use Rattle.mill_job.specs.declared.job.Job.{Job}
+use Rattle.mill_job.specs.declared.fields.JobFields.{JobFields}
 use Rattle.mill_dexel.specs.Tops.{Stock, uncut}
 use Rattle.mill_dexel.specs.Turns.{move_at}
 use Rattle.mill_verify.specs.Tests.{IsGood, IsGoodOn, stock_met}
@@ -18,11 +18,11 @@ use Rattle.mill_report.proofs.Alone.{good_met, names_met}
 use Rattle.mill_report.proofs.Listed.{listing_bare, listing_more, listing_start}
 
 -- the findings on the moves before move n, each of which names a leaf that is blocked
-pub record AreFoundTo (job : Job) (part : List Tri) (moves : List Move) (n : ℕ) (found : List Reason) : Type 0 where
+pub record AreFoundTo (job : JobFields) (part : List Tri) (moves : List Move) (n : ℕ) (found : List Reason) : Type 0 where
   pub are : AreFindingsTo job part moves n found
   pub named : All (NamesLeaf job part (uncut job) moves) found
 
-module _ (job : Job) (part : List Tri) (moves : List Move) where
+module _ (job : JobFields) (part : List Tri) (moves : List Move) where
   -- before the first move nothing is found
   start : AreFoundTo job part moves 0 []
   start = record { are = listing_start Reason move_of (IsFinding job part moves) (IsGood job part moves); named = All-nil (NamesLeaf job part (uncut job) moves) }
@@ -69,9 +69,9 @@ module _ (job : Job) (part : List Tri) (moves : List Move) where
     found_more told new m read is at = noted told new (subst (λ (x : Move). IsToldOf n x told) read is) at
 
 -- what is told of the move that is read, by the stop that is read
-pub read_told : (job : Job) (stock : Stock) (m n : Move) (o p : Option Stop) → m ≡ n → o ≡ p → IsTold job stock n p → IsTold job stock m o
+pub read_told : (job : JobFields) (stock : Stock) (m n : Move) (o p : Option Stop) → m ≡ n → o ≡ p → IsTold job stock n p → IsTold job stock m o
 read_told job stock m n o p move stop told = subst (λ (x : Move). IsTold job stock x o) (sym move) (subst (IsTold job stock n) (sym stop) told)
 
 -- after the last move they are all
-pub found_all : (job : Job) (part : List Tri) (moves : List Move) (n : ℕ) (found : List Reason) → n ≡ length moves → AreFoundTo job part moves n found → AreFindings job part moves found
+pub found_all : (job : JobFields) (part : List Tri) (moves : List Move) (n : ℕ) (found : List Reason) → n ≡ length moves → AreFoundTo job part moves n found → AreFindings job part moves found
 found_all job part moves n found all h = subst (λ (k : ℕ). AreFindingsTo job part moves k found) all h.are

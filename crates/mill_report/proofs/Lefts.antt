@@ -11,7 +11,7 @@ use Rattle.mill_base.specs.Covers.{Covered}
 use Rattle.mill_base.specs.declared.points.Tri.{Tri}
 use Rattle.mill_base.proofs.Machine.{Read, Diff, stored, kept, exact}
 use Rattle.mill_base.proofs.Ranges.{coordinate, within_of_unit}
-use Rattle.mill_job.specs.declared.job.Job.{Job}
+use Rattle.mill_job.specs.declared.fields.JobFields.{JobFields}
 use Rattle.mill_job.specs.Jobs.{IsJob, IsFrom}
 use Rattle.mill_job.specs.Columns.{IsColumn, column_count, column_x, column_y, row_count}
 use Rattle.mill_dexel.specs.Rows.{IsRowOf, RowState}
@@ -34,7 +34,7 @@ small z h = by z h.low h.high
     by z low high = omega (arith, ints)
 
 -- what the code asks of a column is what test (iv) speaks of
-pub cut_stored : {job : Job} {part : List Tri} {x y top : ℤ} {P : Type 0} → IsJob job → Within MAX_COORDINATE x → Within MAX_COORDINATE y → Within MAX_COORDINATE top
+pub cut_stored : {job : JobFields} {part : List Tri} {x y top : ℤ} {P : Type 0} → IsJob job → Within MAX_COORDINATE x → Within MAX_COORDINATE y → Within MAX_COORDINATE top
     → (P ↔ Covered part (stored w32 job.floor) (stored w32 job.band) (stored w32 x) (stored w32 y) (stored w32 (stored w32 top -ℤ stored w32 job.allowance)))
     → (P ↔ Covered part job.floor job.band x y (top -ℤ job.allowance))
 cut_stored {job} {part} {x} {y} {top} ok x_ok y_ok top_ok h =
@@ -44,7 +44,7 @@ cut_stored {job} {part} {x} {y} {top} ok x_ok y_ok top_ok h =
     rw (floor, band, coordinate x x_ok, coordinate y y_ok, enough) at h
 
 -- a top of a row is in range
-pub top_within : {job : Job} {z : ℤ} → IsJob job → IsFrom job.floor job.top z → Within MAX_COORDINATE z
+pub top_within : {job : JobFields} {z : ℤ} → IsJob job → IsFrom job.floor job.top z → Within MAX_COORDINATE z
 top_within {job} {z} ok from = record { within = by job.floor job.top z (within_of_unit job.unit job.floor ok.floor_ok).within (within_of_unit job.unit job.top ok.top_ok).within from.low from.high }
   where
     by : (lo hi v : ℤ) → nat_abs lo ≤ MAX_COORDINATE → nat_abs hi ≤ MAX_COORDINATE → lo ≤ℤ v → v ≤ℤ hi → nat_abs v ≤ MAX_COORDINATE
@@ -64,7 +64,7 @@ take_less {A} n xs x total shown count first = ⊎_elim inside full (cases_lt to
     full : n ≤ total → (if nat_lt total n then shown ++ x ∷ [] else shown) ≡ take n (xs ++ x ∷ [])
     full least = sym (cond_above total n (shown ++ x ∷ []) shown (take n (xs ++ x ∷ [])) least (take-append-le n xs (x ∷ []) (omega (least, count, arith)) ∙ sym first))
 
-module _ (job : Job) (part : List Tri) (stock : Stock) where
+module _ (job : JobFields) (part : List Tri) (stock : Stock) where
   abbrev number : LeftColumn → ℕ
   number c = column_number job c.row c.col
 
@@ -97,7 +97,7 @@ module _ (job : Job) (part : List Tri) (stock : Stock) where
         })
 
 -- what the code reads of a column
-module _ (job : Job) (rows : List RowState) (ok : IsJob job) (j i : ℕ) (row : RowState) (tops : List ℤ) (count : length rows ≡ row_count job) (column : IsColumn job j i) (read : row ≡ slice_index_or rows j row) (same : tops ≡ row.tops) where
+module _ (job : JobFields) (rows : List RowState) (ok : IsJob job) (j i : ℕ) (row : RowState) (tops : List ℤ) (count : length rows ≡ row_count job) (column : IsColumn job j i) (read : row ≡ slice_index_or rows j row) (same : tops ≡ row.tops) where
   inside : j < length rows
   inside = let c = column.row in omega (c, count, arith)
 
@@ -113,7 +113,7 @@ module _ (job : Job) (rows : List RowState) (ok : IsJob job) (j i : ℕ) (row : 
       ap (λ (ts : List ℤ). slice_index_or ts i (pos 0)) (same ∙ shown.after) ∙ row_tops-at job stock j i (pos 0) column.column
 
 -- test (iv) of the column that was read
-pub column_cut : (job : Job) (part : List Tri) (stock : Stock) (j i : ℕ) (P : Type 0) (x y top : ℤ) → Within MAX_COORDINATE x → Within MAX_COORDINATE y → Within MAX_COORDINATE top
+pub column_cut : (job : JobFields) (part : List Tri) (stock : Stock) (j i : ℕ) (P : Type 0) (x y top : ℤ) → Within MAX_COORDINATE x → Within MAX_COORDINATE y → Within MAX_COORDINATE top
     → x ≡ column_x job i → y ≡ column_y job j → top ≡ stock j i → (P ↔ Covered part job.floor job.band (stored w32 x) (stored w32 y) (stored w32 top -ℤ job.allowance)) → (P ↔ IsCutOn job part stock j i)
 column_cut job part stock j i P x y top x_ok y_ok top_ok ex ey et h =
     subst (λ (v : ℤ). P ↔ Covered part job.floor job.band (column_x job i) (column_y job j) (v -ℤ job.allowance)) (coordinate top top_ok ∙ et)
@@ -127,7 +127,7 @@ pub not_true : {b : Bool} → b ≡ false → b ≡ true → ⊥
 not_true e f = cc
 
 -- after the last row all columns are tested
-pub left_all : (job : Job) (part : List Tri) (stock : Stock) (n : ℕ) (g : LeftColumns) → n ≡ row_count job → IsLeftTo job part stock (column_number job n 0) g → IsShownLeft job part stock g.shown.items g.total
+pub left_all : (job : JobFields) (part : List Tri) (stock : Stock) (n : ℕ) (g : LeftColumns) → n ≡ row_count job → IsLeftTo job part stock (column_number job n 0) g → IsShownLeft job part stock g.shown.items g.total
 left_all job part stock n g e h = record { left = h.left; are = subst (λ (k : ℕ). AreLeftTo job part stock k h.left) all h.are; first = h.first; count = h.count }
   where
     ends : (k : ℕ) → k + 0 ≡ k

@@ -4,7 +4,7 @@ use Rattle.std.proofs.Common.{sym, ◌∙◌, ap, subst, ⊎_elim, arith}
 use Rattle.std.proofs.lemmas.Nat.{row_fits}
 use Rattle.mill_base.specs.declared.points.Tri.{Tri}
 use Rattle.mill_base.specs.declared.motion.Move.{Move}
-use Rattle.mill_job.specs.declared.job.Job.{Job}
+use Rattle.mill_job.specs.declared.fields.JobFields.{JobFields}
 use Rattle.mill_job.specs.Columns.{IsBefore, IsColumn, column_count, row_count}
 use Rattle.mill_dexel.specs.Tops.{Stock, stock_after, uncut}
 use Rattle.mill_verify.specs.Tests.{IsCutOn, IsGood}
@@ -31,7 +31,7 @@ first_is_verdict job part moves reason rest h =
     (before_first Reason move_of (IsFinding job part moves) (IsGood job part moves) (length moves) reason rest h) is.fails.rejects
 
 -- without findings every move is good
-good_all : (job : Job) (part : List Tri) (moves : List Move) → AreFindings job part moves [] → (k : ℕ) → k < length moves → IsGood job part moves k
+good_all : (job : JobFields) (part : List Tri) (moves : List Move) → AreFindings job part moves [] → (k : ℕ) → k < length moves → IsGood job part moves k
 good_all job part moves h = none_listed Reason move_of (IsFinding job part moves) (IsGood job part moves) (length moves) h
 
 same_reason : {r s : Reason} → Reject r ≡ Reject s → r ≡ s
@@ -54,7 +54,7 @@ verdict_is_first one job part moves reason (first ∷ rest) h of_move v =
 row_before : (start end n i : ℕ) → start + n ≤ end → i < n → start + i < end
 row_before start end n i fits within = omega (fits, within, arith)
 
-module _ (job : Job) (part : List Tri) (stock : Stock) where
+module _ (job : JobFields) (part : List Tri) (stock : Stock) where
   abbrev number : LeftColumn → ℕ
   number c = column_number job c.row c.col
 

@@ -5,7 +5,7 @@ use Rattle.std.proofs.lemmas.Bool.{cases_lt}
 use Rattle.std.proofs.lemmas.List.{get_or_append_left, get_or_push, length_push, take-append-le, take_all}
 use Rattle.std.proofs.lemmas.List.Elements.{All-nil, All-push}
 use Rattle.mill_base.specs.declared.motion.Move.{Move}
-use Rattle.mill_job.specs.declared.job.Job.{Job}
+use Rattle.mill_job.specs.declared.fields.JobFields.{JobFields}
 use Rattle.mill_job.specs.Columns.{row_count}
 use Rattle.mill_dexel.specs.Rows.{HolderClearsRow, IsRowOf, RowState, uncut_row}
 use Rattle.mill_dexel.specs.Stocks.{IsRow, IsStock}
@@ -27,7 +27,7 @@ next_of : (P : ℕ → Type 0) (n : ℕ) → ((j : ℕ) → j < n → P j) → P
 next_of P n before last j less = ⊎_elim (λ (lt : j < n). before j lt) (λ (le : n ≤ j). let e : n ≡ j = omega (le, less, arith) in subst P e last) (cases_lt j n)
 
 -- ---- one row more tells of a move
-module _ (job : Job) (rows : ℕ → RowState) (m : Move) (n : ℕ) where
+module _ (job : JobFields) (rows : ℕ → RowState) (m : Move) (n : ℕ) where
   more_cut : ((j : ℕ) → j < n → CutClearsRow job (rows j) m) → CutClearsRow job (rows n) m → (j : ℕ) → j < n + 1 → CutClearsRow job (rows j) m
   more_cut before last = next_of (λ j. CutClearsRow job (rows j) m) n before last
 
@@ -79,11 +79,11 @@ module _ (job : Job) (rows : ℕ → RowState) (m : Move) (n : ℕ) where
   told_more told (Some fail) h stops = told_stop told fail h stops
 
 -- ---- the turns of one row
-abbrev IsToldAt : Job → List Move → ℕ → List (Option Stop) → ℕ → Type 0
+abbrev IsToldAt : JobFields → List Move → ℕ → List (Option Stop) → ℕ → Type 0
 IsToldAt job moves n stops k = IsToldBy job (row_met job moves k) (move_at moves k) n (slice_index_or stops k None)
 
 -- row j before its turn of move next: it has told of each move before that, and the rows before it of the others
-pub record IsPassing (job : Job) (moves : List Move) (j next : ℕ) (row : RowState) (stops : List (Option Stop)) : Type 0 where
+pub record IsPassing (job : JobFields) (moves : List Move) (j next : ℕ) (row : RowState) (stops : List (Option Stop)) : Type 0 where
   pub is : row ≡ row_met job moves next j
   pub is_row : IsRowOf job row
   pub within : next ≤ length moves
@@ -91,7 +91,7 @@ pub record IsPassing (job : Job) (moves : List Move) (j next : ℕ) (row : RowSt
   pub before : (k : ℕ) → k < next → IsToldAt job moves (j + 1) stops k
   pub behind : (k : ℕ) → next ≤ k → k < length moves → IsToldAt job moves j stops k
 
-module _ (job : Job) (moves : List Move) (j : ℕ) where
+module _ (job : JobFields) (moves : List Move) (j : ℕ) where
   pub passing_start : (row : RowState) (stops : List (Option Stop)) → row ≡ uncut_row job j → IsRowOf job row → AreToldBy job moves j stops → IsPassing job moves j 0 row stops
   passing_start row stops fresh is_row told = record {
     is = fresh;
@@ -167,19 +167,19 @@ module _ (job : Job) (moves : List Move) (j : ℕ) where
 -- ---- row by row
 
 -- the rows before row n have gone through all moves
-pub record ArePassedTo (job : Job) (moves : List Move) (n : ℕ) (rows : List RowState) (stops : List (Option Stop)) : Type 0 where
+pub record ArePassedTo (job : JobFields) (moves : List Move) (n : ℕ) (rows : List RowState) (stops : List (Option Stop)) : Type 0 where
   pub count : length rows ≡ n
   pub are : (j : ℕ) (other : RowState) → j < n → slice_index_or rows j other ≡ row_met job moves (length moves) j
   pub rows_ok : All (IsRowOf job) rows
   pub told : AreToldBy job moves n stops
 
-pub passed_none : (job : Job) (moves : List Move) (rows : List RowState) (stops : List (Option Stop)) → rows ≡ [] → AreToldBy job moves 0 stops → ArePassedTo job moves 0 rows stops
+pub passed_none : (job : JobFields) (moves : List Move) (rows : List RowState) (stops : List (Option Stop)) → rows ≡ [] → AreToldBy job moves 0 stops → ArePassedTo job moves 0 rows stops
 passed_none job moves rows stops none told = subst (λ (rs : List RowState). ArePassedTo job moves 0 rs stops) (sym none) start
   where
     start : ArePassedTo job moves 0 [] stops
     start = record { count = refl; are = λ j other less. absurd (omega (less, arith)); rows_ok = All-nil (IsRowOf job); told = told }
 
-pub passed_more : (job : Job) (moves : List Move) (n : ℕ) (rows : List RowState) (stops noted : List (Option Stop)) (row : RowState) → ArePassedTo job moves n rows stops → IsRowOf job row
+pub passed_more : (job : JobFields) (moves : List Move) (n : ℕ) (rows : List RowState) (stops noted : List (Option Stop)) (row : RowState) → ArePassedTo job moves n rows stops → IsRowOf job row
     → row ≡ row_met job moves (length moves) n → AreToldBy job moves (n + 1) noted → ArePassedTo job moves (n + 1) (rows ++ row ∷ []) noted
 passed_more job moves n rows stops noted row passed is_row is told = record {
   count = length_push rows row ∙ ap (λ (k : ℕ). k + 1) passed.count;
@@ -196,7 +196,7 @@ passed_more job moves n rows stops noted row passed is_row is told = record {
         get_or_push rows row other j (omega (c, e, arith)) ∙ is ∙ ap (row_met job moves (length moves)) e
 
 -- all of them show the stock that the moves leave
-pub passed_all : (job : Job) (moves : List Move) (n : ℕ) (rows : List RowState) (stops : List (Option Stop)) → n ≡ row_count job → ArePassedTo job moves n rows stops → IsStock job moves rows
+pub passed_all : (job : JobFields) (moves : List Move) (n : ℕ) (rows : List RowState) (stops : List (Option Stop)) → n ≡ row_count job → ArePassedTo job moves n rows stops → IsStock job moves rows
 passed_all job moves n rows stops all passed = record {
   count = passed.count ∙ all;
   rows_ok = λ j other there. subst (IsRow job moves j) (sym (passed.are j other (omega (all, there, arith)))) (shown j);
@@ -206,7 +206,7 @@ passed_all job moves n rows stops all passed = record {
     shown j = subst (λ (ms : List Move). IsRow job ms j (row_met job moves (length moves) j)) (take_all (length moves) moves (omega arith)) (met_shows job (uncut job) j moves (length moves))
 
 -- and what they tell of each move is told of it on the stock that it meets
-pub all_told : (job : Job) (moves : List Move) (stops : List (Option Stop)) → AreToldBy job moves (row_count job) stops → AreTold job moves stops
+pub all_told : (job : JobFields) (moves : List Move) (stops : List (Option Stop)) → AreToldBy job moves (row_count job) stops → AreTold job moves stops
 all_told job moves stops told = record {
   count = told.count;
   each = λ k there. told_on job (stock_met job (uncut job) moves k) (row_met job moves k) (λ j. met_shows job (uncut job) j moves k) (move_at moves k) (slice_index_or stops k None) (told.each k there);

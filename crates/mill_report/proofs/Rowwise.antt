@@ -10,7 +10,7 @@ use Rattle.mill_base.specs.Points.{point_tri}
 use Rattle.mill_sweep.specs.Halving.{Blocks, FailsAt, PassesPoint}
 use Rattle.mill_sweep.specs.Holders.{HolderFailsAt, HolderIsBlocked, HolderPassesPoint}
 use Rattle.mill_sweep.specs.Leaves.{span_of}
-use Rattle.mill_job.specs.declared.job.Job.{Job}
+use Rattle.mill_job.specs.declared.fields.JobFields.{JobFields}
 use Rattle.mill_job.specs.Columns.{IsBefore, IsColumn, column_count, row_count}
 use Rattle.mill_dexel.specs.Rows.{HolderClearsRow, HolderPassesRow, RowState, row_point}
 use Rattle.mill_dexel.specs.Stocks.{ShowsRow}
@@ -23,7 +23,7 @@ use Rattle.mill_report.specs.inner.Stops.{CutClears, HolderClears, IsCutRow, IsC
 use Rattle.mill_report.specs.declared.pass.Stop.{Stop}
 use Rattle.mill_report.proofs.Alone.{if_some, of_some}
 
-module _ (job : Job) (stock : Stock) (rows : ℕ → RowState) (shows : (j : ℕ) → ShowsRow job stock j (rows j)) (m : Move) where
+module _ (job : JobFields) (stock : Stock) (rows : ℕ → RowState) (shows : (j : ℕ) → ShowsRow job stock j (rows j)) (m : Move) where
   -- the point at which a move of a kind is tested at a column
   point_is : (kind : Kind) (j i : ℕ) → i < column_count job → row_point job kind (rows j) i ≡ tested_point_on job kind stock j i
   point_is kind j i column = let row = shows j in rw (row.number, row.after, row_tops-at job stock j i (pos 0) column) refl

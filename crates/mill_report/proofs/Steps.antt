@@ -16,7 +16,7 @@ use Rattle.mill_sweep.specs.Holders.{HolderFailingIsBlocked, HolderFailsAt, Hold
 use Rattle.mill_sweep.specs.Leaves.{span_of}
 use Rattle.mill_sweep.specs.Moments.{FailingIsBlocked}
 use Rattle.mill_sweep.specs.declared.leaf.Leaf.{Leaf}
-use Rattle.mill_job.specs.declared.job.Job.{Job}
+use Rattle.mill_job.specs.declared.fields.JobFields.{JobFields}
 use Rattle.mill_job.specs.Jobs.{IsJob, tool_of}
 use Rattle.mill_dexel.specs.Tops.{Stock, tested_point_on, top_point_on}
 use Rattle.mill_dexel.specs.declared.fail.RowTest.{RowTest}
@@ -33,7 +33,7 @@ use Rattle.mill_report.specs.inner.Stops.{IsCutStop, IsHolderStop, PassesStock, 
 use Rattle.mill_report.specs.declared.pass.Stop.{Stop}
 use Rattle.mill_report.proofs.Alone.{of_some}
 
-module _ (failing_is_blocked : FailingIsBlocked) (holder_failing_is_blocked : HolderFailingIsBlocked) (job : Job) (m : Move) (job_ok : IsJob job) (range : MoveInRange m) where
+module _ (failing_is_blocked : FailingIsBlocked) (holder_failing_is_blocked : HolderFailingIsBlocked) (job : JobFields) (m : Move) (job_ok : IsJob job) (range : MoveInRange m) where
   -- a leaf at which a test fails is one of the last
   leaf_named : (leaf : Leaf) (tri : Tri) → FailsAt job.cutter m tri leaf → Blocks job.cutter (span_of m leaf.d leaf.k) tri → BlocksLeaf job.cutter m leaf tri
   leaf_named leaf tri fails blocked = record { last = (failing_is_blocked job.cutter m tri leaf job_ok.cutter_ok range fails).0; blocks = blocked }

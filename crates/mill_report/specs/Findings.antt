@@ -2,7 +2,7 @@
 use Rattle.std.specs.Prelude.{ℕ, ◌<◌, List, [], ◌∷◌, length}
 use Rattle.mill_base.specs.declared.points.Tri.{Tri}
 use Rattle.mill_base.specs.declared.motion.Move.{Move}
-use Rattle.mill_job.specs.declared.job.Job.{Job}
+use Rattle.mill_job.specs.declared.fields.JobFields.{JobFields}
 use Rattle.mill_dexel.specs.Tops.{Stock, uncut}
 use Rattle.mill_dexel.specs.Turns.{move_at}
 use Rattle.mill_verify.specs.Tests.{IsGood, stock_met}
@@ -32,19 +32,19 @@ numbered n (HolderStock k j i leaf) = HolderStock n j i leaf
 numbered n (Left j i top) = Left j i top
 
 -- on this stock the program of this move alone is rejected, as its move 0, for this reason, which is a test of a move
-pub record FailsAlone (job : Job) (part : List Tri) (stock : Stock) (m : Move) (reason : Reason) : Type 0 where
+pub record FailsAlone (job : JobFields) (part : List Tri) (stock : Stock) (m : Move) (reason : Reason) : Type 0 where
   pub of_move : IsOfMove reason
   pub rejects : IsRejectionOn job part stock (m ∷ []) (numbered 0 reason)
 
 -- a finding: there is a move of the reason's number, and on the stock that all moves before it leave it fails so
-pub record IsFinding (job : Job) (part : List Tri) (moves : List Move) (reason : Reason) : Type 0 where
+pub record IsFinding (job : JobFields) (part : List Tri) (moves : List Move) (reason : Reason) : Type 0 where
   pub there : move_of reason < length moves
   pub fails : FailsAlone job part (stock_met job (uncut job) moves (move_of reason)) (move_at moves (move_of reason)) reason
 
 -- the findings on the moves before move n, in order: each other move before it is good
-abbrev pub AreFindingsTo : Job → List Tri → List Move → ℕ → List Reason → Type 0
+abbrev pub AreFindingsTo : JobFields → List Tri → List Move → ℕ → List Reason → Type 0
 AreFindingsTo job part moves n found = IsListing Reason move_of (IsFinding job part moves) (IsGood job part moves) n found
 
 -- all findings
-abbrev pub AreFindings : Job → List Tri → List Move → List Reason → Type 0
+abbrev pub AreFindings : JobFields → List Tri → List Move → List Reason → Type 0
 AreFindings job part moves found = AreFindingsTo job part moves (length moves) found

@@ -2,9 +2,7 @@ ghost use Rattle.std.specs.Prelude.{◌≡◌, ◌+◌, ◌*◌, ◌<◌, ◌≤
 ghost use Rattle.mill_base.specs.Numbers.{Within};
 ghost use Rattle.mill_base.specs.Covers.{Covered};
 ghost use Rattle.mill_base.specs.declared.limits.TheConstants.{MAX_COORDINATE};
-ghost use Rattle.mill_cells.specs.Sorted.{sorted_of};
 ghost use Rattle.mill_job.specs.Columns.{IsColumn, row_count};
-ghost use Rattle.mill_job.specs.Jobs.{IsJob};
 ghost use Rattle.mill_dexel.specs.Rows.{IsRowOf};
 ghost use Rattle.mill_dexel.specs.Stocks.{ShowsStock};
 ghost use Rattle.mill_dexel.specs.Tops.{Stock};
@@ -12,10 +10,9 @@ ghost use Rattle.mill_report.specs.Columns.{IsShownLeft, column_number};
 ghost use Rattle.mill_report.specs.inner.Lefts.{IsLeftTo, shown_more};
 
 use mill_base::WantOfMemory;
-use mill_cells::Cells;
 use mill_dexel::Row;
 use mill_job::Job;
-use mill_part::Part;
+use mill_part::SortedPart;
 use std::alloc::Global;
 
 /// The most columns that are told of one by one.
@@ -42,22 +39,20 @@ pub struct LeftColumns {
 pub fn columns_left(
     alloc: Global,
     job: &Job,
-    part: &Part,
-    cells: &Cells,
+    part: &SortedPart,
     rows: &[Row],
 ) -> Result<LeftColumns, WantOfMemory>
-    requires job_ok { IsJob job.now }
-    requires cells_ok { cells.now ≡ sorted_of part.now }
-    requires rows_ok { All (IsRowOf job.now) rows.now }
-    requires count { length rows.now ≡ row_count job.now }
-    ensures { IfOk result (λ left. (stock : Stock) → ShowsStock job.now stock rows.now → IsShownLeft job.now part.now stock left.shown.items left.total) }
+    requires rows_ok { All (IsRowOf job.now.fields) rows.now }
+    requires count { length rows.now ≡ row_count job.now.fields }
+    ensures { IfOk result (λ left. (stock : Stock) → ShowsStock job.now.fields stock rows.now →
+        IsShownLeft job.now.fields part.now stock left.shown.items left.total) }
 {
     let mut left = LeftColumns {
         shown: Vec::new(alloc),
         total: 0,
     };
     for number in 0..job.rows() {
-        add_row(job, part, cells, rows, number, &mut left)?;
+        add_row(job, part, rows, number, &mut left)?;
     }
     Ok(left)
 }
@@ -65,27 +60,24 @@ pub fn columns_left(
 /// Test (iv) of each column of row `number`, whose columns left too high are added to those of the rows before.
 fn add_row(
     job: &Job,
-    part: &Part,
-    cells: &Cells,
+    part: &SortedPart,
     rows: &[Row],
     number: u32,
     left: &mut LeftColumns,
 ) -> Result<(), WantOfMemory>
-    requires job_ok { IsJob job.now }
-    requires cells_ok { cells.now ≡ sorted_of part.now }
-    requires rows_ok { All (IsRowOf job.now) rows.now }
-    requires count { length rows.now ≡ row_count job.now }
-    requires there { number < row_count job.now }
-    requires few { left.old.total ≤ column_number job.now number 0 }
-    ensures few { OnOk result (left.new.total ≤ column_number job.now (number + 1) 0) }
+    requires rows_ok { All (IsRowOf job.now.fields) rows.now }
+    requires count { length rows.now ≡ row_count job.now.fields }
+    requires there { number < row_count job.now.fields }
+    requires few { left.old.total ≤ column_number job.now.fields number 0 }
+    ensures few { OnOk result (left.new.total ≤ column_number job.now.fields (number + 1) 0) }
     ensures more { OnOk
         result
-        ((stock : Stock) → ShowsStock job.now stock rows.now
-        → IsLeftTo job.now part.now stock (column_number job.now number 0) left.old
-        → IsLeftTo job.now part.now stock (column_number job.now (number + 1) 0) left.new) }
+        ((stock : Stock) → ShowsStock job.now.fields stock rows.now
+        → IsLeftTo job.now.fields part.now stock (column_number job.now.fields number 0) left.old
+        → IsLeftTo job.now.fields part.now stock (column_number job.now.fields (number + 1) 0) left.new) }
 {
     for col in 0..job.columns() {
-        test_column(job, part, cells, rows, number, col, left)?;
+        test_column(job, part, rows, number, col, left)?;
     }
     Ok(())
 }
@@ -93,28 +85,25 @@ fn add_row(
 /// Test (iv) of column `col` of row `number`, which is added where it is left too high.
 fn test_column(
     job: &Job,
-    part: &Part,
-    cells: &Cells,
+    part: &SortedPart,
     rows: &[Row],
     number: u32,
     col: u32,
     left: &mut LeftColumns,
 ) -> Result<(), WantOfMemory>
-    requires job_ok { IsJob job.now }
-    requires cells_ok { cells.now ≡ sorted_of part.now }
-    requires rows_ok { All (IsRowOf job.now) rows.now }
-    requires count { length rows.now ≡ row_count job.now }
-    requires column { IsColumn job.now number col }
-    requires few { left.old.total ≤ column_number job.now number col }
-    ensures few { OnOk result (left.new.total ≤ column_number job.now number (col + 1)) }
+    requires rows_ok { All (IsRowOf job.now.fields) rows.now }
+    requires count { length rows.now ≡ row_count job.now.fields }
+    requires column { IsColumn job.now.fields number col }
+    requires few { left.old.total ≤ column_number job.now.fields number col }
+    ensures few { OnOk result (left.new.total ≤ column_number job.now.fields number (col + 1)) }
     ensures more { OnOk
         result
-        ((stock : Stock) → ShowsStock job.now stock rows.now
-        → IsLeftTo job.now part.now stock (column_number job.now number col) left.old
-        → IsLeftTo job.now part.now stock (column_number job.now number (col + 1)) left.new) }
+        ((stock : Stock) → ShowsStock job.now.fields stock rows.now
+        → IsLeftTo job.now.fields part.now stock (column_number job.now.fields number col) left.old
+        → IsLeftTo job.now.fields part.now stock (column_number job.now.fields number (col + 1)) left.new) }
 {
     let top = rows[number as usize].tops()[col as usize];
-    if is_cut(job, part, cells, job.column_x(col), job.row_y(number), top) {
+    if is_cut(job, part, job.column_x(col), job.row_y(number), top) {
         return Ok(());
     }
     let column = LeftColumn {
@@ -127,16 +116,14 @@ fn test_column(
 }
 
 /// Test (iv) of a column with this top: whether the top less the allowance is covered.
-fn is_cut(job: &Job, part: &Part, cells: &Cells, x: i32, y: i32, top: i32) -> bool
-    requires job_ok { IsJob job.now }
-    requires cells_ok { cells.now ≡ sorted_of part.now }
+fn is_cut(job: &Job, part: &SortedPart, x: i32, y: i32, top: i32) -> bool
     requires x_ok { Within MAX_COORDINATE x }
     requires y_ok { Within MAX_COORDINATE y }
     requires top_ok { Within MAX_COORDINATE top }
-    ensures { IsTrue result ↔ Covered part.now job.now.floor job.now.band x y (top -ℤ job.now.allowance) }
+    ensures { IsTrue result ↔ Covered part.now job.now.fields.floor job.now.fields.band x y (top -ℤ job.now.fields.allowance) }
 {
-    let enough = top - job.allowance;
-    part.covered_near(cells, job.floor, x, y, enough, job.band)
+    let enough = top - job.fields.allowance;
+    part.covered_near(job.fields.floor, x, y, enough, job.fields.band)
 }
 
 /// One column more, which is shown where not too many are yet.

@@ -19,4 +19,4 @@ pub use laws::{
     one_list, verdict_is_first,
 };
 pub use left::{LeftColumn, LeftColumns, MAX_LEFT};
-pub use report::{Findings, all_findings, all_findings_with_cells};
+pub use report::{Findings, all_findings};

@@ -1,8 +1,6 @@
 ghost use Rattle.std.specs.Prelude.{◌≡◌, ◌≤◌, [], ◌∷◌, ◌++◌, All, length, IfOk, MatchOption, OnOk};
 ghost use Rattle.mill_base.specs.declared.limits.TheConstants.{MAX_MOVES};
 ghost use Rattle.mill_base.specs.Ranges.{MovesInRange};
-ghost use Rattle.mill_cells.specs.Sorted.{sorted_of};
-ghost use Rattle.mill_job.specs.Jobs.{IsJob};
 ghost use Rattle.mill_dexel.specs.Tops.{uncut};
 ghost use Rattle.mill_verify.specs.Verdicts.{NamesLeaf};
 ghost use Rattle.mill_report.specs.Findings.{AreFindings};
@@ -11,9 +9,8 @@ ghost use Rattle.mill_report.specs.inner.Stops.{AreTold};
 use crate::pass::Stop;
 use crate::step::finding_of;
 use mill_base::{Move, WantOfMemory};
-use mill_cells::Cells;
 use mill_job::Job;
-use mill_part::Part;
+use mill_part::SortedPart;
 use mill_verify::Reason;
 use std::alloc::Global;
 
@@ -22,23 +19,20 @@ use std::alloc::Global;
 pub fn failing_moves(
     alloc: Global,
     job: &Job,
-    part: &Part,
-    cells: &Cells,
+    part: &SortedPart,
     moves: &[Move],
     stops: &[Option<Stop>],
 ) -> Result<Vec<Reason>, WantOfMemory>
-    requires job_ok { IsJob job.now }
-    requires cells_ok { cells.now ≡ sorted_of part.now }
     requires moves_ok { MovesInRange moves.now }
     requires few { length moves.now ≤ MAX_MOVES }
-    requires told { AreTold job.now moves.now stops.now }
-    ensures found { IfOk result (λ found. AreFindings job.now part.now moves.now found.items) }
-    ensures blocked { IfOk result (λ found. All (NamesLeaf job.now part.now (uncut job.now) moves.now) found.items) }
+    requires told { AreTold job.now.fields moves.now stops.now }
+    ensures found { IfOk result (λ found. AreFindings job.now.fields part.now moves.now found.items) }
+    ensures blocked { IfOk result (λ found. All (NamesLeaf job.now.fields part.now (uncut job.now.fields) moves.now) found.items) }
 {
     let mut found = Vec::new(alloc);
     for number in 0..moves.len() {
         let step = &moves[number];
-        let finding = finding_of(job, part, cells, step, number as u64, stops[number]);
+        let finding = finding_of(job, part, step, number as u64, stops[number]);
         note(&mut found, finding)?;
     }
     Ok(found)

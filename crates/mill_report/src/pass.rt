@@ -1,7 +1,6 @@
 ghost use Rattle.std.specs.Prelude.{◌≡◌, ◌≢◌, ℕ, ◌+◌, ◌<◌, ◌≤◌, ◌^◌, All, length, None, IfOk, OnOk, replicate, slice_index_or};
 ghost use Rattle.mill_base.specs.Ranges.{MovesInRange};
 ghost use Rattle.mill_job.specs.Columns.{row_count};
-ghost use Rattle.mill_job.specs.Jobs.{IsJob};
 ghost use Rattle.mill_dexel.specs.Rows.{IsRowOf, uncut_row};
 ghost use Rattle.mill_dexel.specs.Stocks.{IsStock};
 ghost use Rattle.mill_report.specs.inner.Stops.{AreTold, AreToldBy, first_of, row_met, told_with};
@@ -35,11 +34,10 @@ pub struct Passage {
 /// It goes row by row, and not move by move, since a row goes over the moves that stay far away from it many at
 /// once. The only error is want of memory, for the rows, the bands of the moves and a place for each move's stop.
 pub fn go_through(alloc: Global, job: &Job, moves: &[Move]) -> Result<Passage, WantOfMemory>
-    requires job_ok { IsJob job.now }
-    requires moves_ok { MovesInRange moves.now }
-    ensures rows_ok { IfOk result (λ passage. All (IsRowOf job.now) passage.rows.items) }
-    ensures stock { IfOk result (λ passage. IsStock job.now moves.now passage.rows.items) }
-    ensures told { IfOk result (λ passage. AreTold job.now moves.now passage.stops.items) }
+    requires { MovesInRange moves.now }
+    ensures rows_ok { IfOk result (λ passage. All (IsRowOf job.now.fields) passage.rows.items) }
+    ensures stock { IfOk result (λ passage. IsStock job.now.fields moves.now passage.rows.items) }
+    ensures told { IfOk result (λ passage. AreTold job.now.fields moves.now passage.stops.items) }
 {
     let bands = Bands::new(alloc, moves, moves.len() as u64)?;
     let mut stops = no_stops(alloc, moves.len())?;
@@ -62,13 +60,12 @@ fn rows_through(
     bands: &Bands,
     stops: &mut [Option<Stop>],
 ) -> Result<Vec<Row>, WantOfMemory>
-    requires job_ok { IsJob job.now }
     requires moves_ok { MovesInRange bands.now.moves }
     requires whole { bands.now.count ≡ length bands.now.moves }
-    requires none { AreToldBy job.now bands.now.moves 0 stops.old }
-    ensures rows_ok { IfOk result (λ rows. All (IsRowOf job.now) rows.items) }
-    ensures stock { IfOk result (λ rows. IsStock job.now bands.now.moves rows.items) }
-    ensures told { OnOk result (AreToldBy job.now bands.now.moves (row_count job.now) stops.new) }
+    requires none { AreToldBy job.now.fields bands.now.moves 0 stops.old }
+    ensures rows_ok { IfOk result (λ rows. All (IsRowOf job.now.fields) rows.items) }
+    ensures stock { IfOk result (λ rows. IsStock job.now.fields bands.now.moves rows.items) }
+    ensures told { OnOk result (AreToldBy job.now.fields bands.now.moves (row_count job.now.fields) stops.new) }
 {
     let mut rows = Vec::new(alloc);
     for number in 0..job.rows() {
@@ -85,14 +82,13 @@ fn row_through(
     number: u32,
     stops: &mut [Option<Stop>],
 ) -> Result<Row, WantOfMemory>
-    requires job_ok { IsJob job.now }
     requires moves_ok { MovesInRange bands.now.moves }
     requires whole { bands.now.count ≡ length bands.now.moves }
-    requires there { number < row_count job.now }
-    requires told { AreToldBy job.now bands.now.moves number stops.old }
-    ensures is { IfOk result (λ row. row ≡ row_met job.now bands.now.moves (length bands.now.moves) number) }
-    ensures row_ok { IfOk result (λ row. IsRowOf job.now row) }
-    ensures told { OnOk result (AreToldBy job.now bands.now.moves (number + 1) stops.new) }
+    requires there { number < row_count job.now.fields }
+    requires told { AreToldBy job.now.fields bands.now.moves number stops.old }
+    ensures is { IfOk result (λ row. row ≡ row_met job.now.fields bands.now.moves (length bands.now.moves) number) }
+    ensures row_ok { IfOk result (λ row. IsRowOf job.now.fields row) }
+    ensures told { OnOk result (AreToldBy job.now.fields bands.now.moves (number + 1) stops.new) }
 {
     let mut row = Row::new(alloc, job, u64::from(number))?;
     take_turns(job, bands, number, &mut row, stops);
@@ -101,15 +97,14 @@ fn row_through(
 
 /// Row `number`'s turns, from the first move to the last.
 fn take_turns(job: &Job, bands: &Bands, number: u32, row: &mut Row, stops: &mut [Option<Stop>])
-    requires job_ok { IsJob job.now }
     requires moves_ok { MovesInRange bands.now.moves }
     requires whole { bands.now.count ≡ length bands.now.moves }
-    requires row_ok { IsRowOf job.now row.old }
-    requires fresh { row.old ≡ uncut_row job.now number }
-    requires told { AreToldBy job.now bands.now.moves number stops.old }
-    ensures is { row.new ≡ row_met job.now bands.now.moves (length bands.now.moves) number }
-    ensures row_ok { IsRowOf job.now row.new }
-    ensures told { AreToldBy job.now bands.now.moves (number + 1) stops.new }
+    requires row_ok { IsRowOf job.now.fields row.old }
+    requires fresh { row.old ≡ uncut_row job.now.fields number }
+    requires told { AreToldBy job.now.fields bands.now.moves number stops.old }
+    ensures is { row.new ≡ row_met job.now.fields bands.now.moves (length bands.now.moves) number }
+    ensures row_ok { IsRowOf job.now.fields row.new }
+    ensures told { AreToldBy job.now.fields bands.now.moves (number + 1) stops.new }
 {
     let moves = bands.moves();
     let count = bands.count();

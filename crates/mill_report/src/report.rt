@@ -1,8 +1,6 @@
 ghost use Rattle.std.specs.Prelude.{◌≡◌, ◌≤◌, All, length, IfOk};
 ghost use Rattle.mill_base.specs.declared.limits.TheConstants.{MAX_MOVES};
 ghost use Rattle.mill_base.specs.Ranges.{MovesInRange};
-ghost use Rattle.mill_cells.specs.Sorted.{sorted_of};
-ghost use Rattle.mill_job.specs.Jobs.{IsJob};
 ghost use Rattle.mill_dexel.specs.Tops.{uncut};
 ghost use Rattle.mill_verify.specs.Verdicts.{NamesLeaf};
 ghost use Rattle.mill_report.specs.Columns.{IsLeftAfter};
@@ -12,9 +10,8 @@ use crate::left::{LeftColumns, columns_left};
 use crate::moves::failing_moves;
 use crate::pass::go_through;
 use mill_base::{Move, WantOfMemory};
-use mill_cells::Cells;
 use mill_job::Job;
-use mill_part::{Part, SortedPart};
+use mill_part::SortedPart;
 use mill_verify::Reason;
 use std::alloc::Global;
 
@@ -34,42 +31,21 @@ pub struct Findings {
 /// 10,000 of them are told of one by one.
 ///
 /// Lengths are in units. The program has at most 1,000,000 moves. The only error is want of memory, for the
-/// cells of the part, the rows of the stock, a place for each move and what is found.
+/// rows of the stock, a place for each move and what is found.
 pub fn all_findings(
     alloc: Global,
     job: &Job,
-    part: &Part,
+    part: &SortedPart,
     moves: &[Move],
 ) -> Result<Findings, WantOfMemory>
-    requires job_ok { IsJob job.now }
     requires moves_ok { MovesInRange moves.now }
     requires few { length moves.now ≤ MAX_MOVES }
-    ensures failing { IfOk result (λ found. AreFindings job.now part.now moves.now found.failing.items) }
-    ensures blocked { IfOk result (λ found. All (NamesLeaf job.now part.now (uncut job.now) moves.now) found.failing.items) }
-    ensures left { IfOk result (λ found. IsLeftAfter job.now part.now moves.now found.left.shown.items found.left.total) }
-{
-    let sorted = SortedPart::new(alloc, part)?;
-    all_findings_with_cells(alloc, job, part, sorted.cells(), moves)
-}
-
-/// The findings of [`all_findings`], by cells that the part's triangles are sorted into already.
-pub fn all_findings_with_cells(
-    alloc: Global,
-    job: &Job,
-    part: &Part,
-    cells: &Cells,
-    moves: &[Move],
-) -> Result<Findings, WantOfMemory>
-    requires job_ok { IsJob job.now }
-    requires cells_ok { cells.now ≡ sorted_of part.now }
-    requires moves_ok { MovesInRange moves.now }
-    requires few { length moves.now ≤ MAX_MOVES }
-    ensures failing { IfOk result (λ found. AreFindings job.now part.now moves.now found.failing.items) }
-    ensures blocked { IfOk result (λ found. All (NamesLeaf job.now part.now (uncut job.now) moves.now) found.failing.items) }
-    ensures left { IfOk result (λ found. IsLeftAfter job.now part.now moves.now found.left.shown.items found.left.total) }
+    ensures failing { IfOk result (λ found. AreFindings job.now.fields part.now moves.now found.failing.items) }
+    ensures blocked { IfOk result (λ found. All (NamesLeaf job.now.fields part.now (uncut job.now.fields) moves.now) found.failing.items) }
+    ensures left { IfOk result (λ found. IsLeftAfter job.now.fields part.now moves.now found.left.shown.items found.left.total) }
 {
     let passage = go_through(alloc, job, moves)?;
-    let failing = failing_moves(alloc, job, part, cells, moves, &passage.stops)?;
-    let left = columns_left(alloc, job, part, cells, &passage.rows)?;
+    let failing = failing_moves(alloc, job, part, moves, &passage.stops)?;
+    let left = columns_left(alloc, job, part, &passage.rows)?;
     Ok(Findings { failing, left })
 }

@@ -1,7 +1,5 @@
 ghost use Rattle.std.specs.Prelude.{◌≡◌, [], ◌∷◌, MatchOption};
 ghost use Rattle.mill_base.specs.Ranges.{MoveInRange};
-ghost use Rattle.mill_cells.specs.Sorted.{sorted_of};
-ghost use Rattle.mill_job.specs.Jobs.{IsJob};
 ghost use Rattle.mill_dexel.specs.Tops.{Stock};
 ghost use Rattle.mill_verify.specs.Tests.{IsGoodOn};
 ghost use Rattle.mill_report.specs.inner.Steps.{FailsMove};
@@ -9,9 +7,8 @@ ghost use Rattle.mill_report.specs.inner.Stops.{IsTold};
 
 use crate::pass::Stop;
 use mill_base::Move;
-use mill_cells::Cells;
 use mill_job::Job;
-use mill_part::Part;
+use mill_part::SortedPart;
 use mill_sweep::{failing_is_blocked, holder_failing_is_blocked};
 use mill_verify::{Reason, is_over_floor, part_fail, part_reason, stock_reason};
 
@@ -19,19 +16,16 @@ use mill_verify::{Reason, is_over_floor, part_fail, part_reason, stock_reason};
 /// passes all.
 pub fn finding_of(
     job: &Job,
-    part: &Part,
-    cells: &Cells,
+    part: &SortedPart,
     step: &Move,
     number: u64,
     told: Option<Stop>,
 ) -> Option<Reason>
-    requires job_ok { IsJob job.now }
-    requires cells_ok { cells.now ≡ sorted_of part.now }
     requires step_ok { MoveInRange step.now }
-    ensures { (stock : Stock) → IsTold job.now stock step.now told → MatchOption
+    ensures { (stock : Stock) → IsTold job.now.fields stock step.now told → MatchOption
         result
-        (IsGoodOn job.now part.now stock (step.now ∷ []) 0)
-        (FailsMove job.now part.now stock step.now number) }
+        (IsGoodOn job.now.fields part.now stock (step.now ∷ []) 0)
+        (FailsMove job.now.fields part.now stock step.now number) }
 {
     if !is_over_floor(job, step) {
         return Some(Reason::Floor { at: number });
@@ -39,7 +33,7 @@ pub fn finding_of(
     // Laws without code: a leaf that fails, of the cutter or of the holder, is one of the last of its move.
     failing_is_blocked();
     holder_failing_is_blocked();
-    if let Some(fail) = part_fail(job, part, cells, step) {
+    if let Some(fail) = part_fail(job, part, step) {
         return Some(part_reason(number, fail));
     }
     let stop = told?;

@@ -1,12 +1,12 @@
 -- How an outcome is told gives the status, and which counts of faults rose.
 use Rattle.std.proofs.Common.{◌≡◌, ◌≢◌, ◌⊎◌, ℕ, List, Option, refl, sym, ◌∙◌, inl, inr, arith}
 use Rattle.std.specs.Prelude.{◌<◌}
-use Rattle.mill_load.specs.Prints.{Prints, PrintsWhole}
+use Rattle.mill_answer.specs.Prints.{Prints, PrintsWhole}
 use Rattle.mill_load.specs.declared.load.LoadFault.TheVariants.{Memory, ReadFault, Unfit}
 use Rattle.mill_report_run.specs.Outcomes.{CountsReads, HasOutcome, IsOutcomeOf, Outcome, Shows, bad_words, failed, help, outcome_status, reported}
-use Rattle.mill_run.proofs.Blaming.{no, on, stays}
-use Rattle.mill_run.specs.Calls.{BlamesFaults, BlamesReads, BlamesWrites, Call, NoFault}
-use Rattle.mill_run.specs.Verify.{verdict_status}
+use Rattle.mill_answer.proofs.Counts.{no, on, stays}
+use Rattle.mill_answer.specs.Calls.{BlamesFaults, BlamesReads, BlamesWrites, Call, NoFault}
+use Rattle.mill_answer.specs.Verify.{verdict_status}
 use Rattle.mill_verify.specs.declared.verdict.Verdict.{Verdict}
 use Rattle.mill_verify.specs.declared.verdict.Verdict.TheVariants.{Accept, Reject}
 

@@ -8,9 +8,9 @@ use Rattle.mill_dexel.specs.Tops.{uncut}
 use Rattle.mill_document.specs.Documents.{text_of}
 use Rattle.mill_io.specs.Views.{IsWritten}
 use Rattle.mill_job.specs.Jobs.{IsJob}
-use Rattle.mill_job.specs.declared.job.Job.{Job}
+use Rattle.mill_job.specs.declared.fields.JobFields.{JobFields}
 use Rattle.mill_load.specs.Loads.{AreMoves}
-use Rattle.mill_load.specs.Prints.{PrintsWhole}
+use Rattle.mill_answer.specs.Prints.{PrintsWhole}
 use Rattle.mill_load.specs.declared.load.LoadFault.TheVariants.{Memory, ReadFault, Unfit}
 use Rattle.mill_report.specs.declared.left.LeftColumn.{LeftColumn}
 use Rattle.mill_report_run.proofs.Blaming.{not_6, not_7, printed_whole, verdict_not}
@@ -19,14 +19,12 @@ use Rattle.mill_report_run.proofs.Taken.{no_request, same_request}
 use Rattle.mill_report_run.specs.Headline.{Completes, Headline, PrintsAcceptance, PrintsReport, Untaken}
 use Rattle.mill_report_run.specs.Outcomes.{AreTextsOf, AsksFor, HasOutcome, IsOutcome, IsOutcomeOf, IsTextOf, Outcome, Reported, Reports, bad_words, failed, help, outcome_status, reported}
 use Rattle.mill_report_run.specs.Words.{RefusesWords, Request, ShowsHelp, is_taken, request}
-use Rattle.mill_report_text.specs.Reports.{Agree, AreFailing, IsReport, Texts}
-use Rattle.mill_run.proofs.Answering.{HasVerdict, is_judged}
-use Rattle.mill_run.proofs.Blaming.{no, on}
-use Rattle.mill_run.specs.Answers.{judged, unfit}
-use Rattle.mill_run.specs.Calls.{Call, HoldsReads, NoFault}
-use Rattle.mill_run.specs.Headline.{AcceptsSafely}
-use Rattle.mill_run.specs.Verify.{AreTold, IsNamed, Judges, Reads, Texts as ToldTexts, texts_of, verdict_status}
-use Rattle.mill_run.specs.Words.{Files}
+use Rattle.mill_report_run.specs.Reports.{Agree, AreFailing, IsReport, Texts}
+use Rattle.mill_answer.proofs.Answering.{HasVerdict, is_judged}
+use Rattle.mill_answer.proofs.Counts.{no, on}
+use Rattle.mill_answer.specs.Judgments.{judged, unfit}
+use Rattle.mill_answer.specs.Calls.{Call, HoldsReads, NoFault}
+use Rattle.mill_answer.specs.Verify.{AcceptsSafely, AreTold, Files, IsNamed, Judges, Reads, Texts as ToldTexts, texts_of, verdict_status}
 use Rattle.mill_verify.specs.Verdicts.{NamesLeaf, OneVerdict}
 use Rattle.mill_verify.specs.declared.verdict.Reason.{Reason}
 use Rattle.mill_verify.specs.declared.verdict.Reason.TheVariants.{Floor, Gouge, Holder, Rapid as RapidCut, Cut, HolderStock, Left}
@@ -133,7 +131,7 @@ module _ (call : Call) (files : Files) (r : Reported) (is : (contents : List ℕ
 
 -- ---- what was read decides the verdict
 
-module _ (job : Job) (part : List Tri) (moves : List Move) where
+module _ (job : JobFields) (part : List Tri) (moves : List Move) where
   first_named : (reason : Reason) (others found : List Reason) → found ≡ reason ∷ others → All (NamesLeaf job part (uncut job) moves) found → NamesLeaf job part (uncut job) moves reason
   first_named reason others found same named =
       All-head (NamesLeaf job part (uncut job) moves) reason others (subst (λ (f : List Reason). All (NamesLeaf job part (uncut job) moves) f) same named)
@@ -148,7 +146,7 @@ module _ (job : Job) (part : List Tri) (moves : List Move) where
   is_named (Reject (HolderStock k j i leaf)) found left too_high agree named = first_named (HolderStock k j i leaf) agree.0 found agree.1 named
   is_named (Reject (Left j i top)) found left too_high agree named = tt
 
-pub judges : (told : ToldTexts) (texts : Texts) (job : Job) (part : List Tri) (moves : List Move) (v : Verdict) (document : Data) → IsJob job → AreMoves job moves → AreTextsOf told texts
+pub judges : (told : ToldTexts) (texts : Texts) (job : JobFields) (part : List Tri) (moves : List Move) (v : Verdict) (document : Data) → IsJob job → AreMoves job moves → AreTextsOf told texts
     → IsReport texts job part moves v document → Judges told job part moves v
 judges told texts job part moves v document job_ok moves_ok agree r = record {
   all_read = all_read told texts job part moves agree r.all_read;
@@ -159,7 +157,7 @@ judges told texts job part moves v document job_ok moves_ok agree r = record {
   named = is_named job part moves v r.found r.left r.too_high r.agree r.named;
 }
 
-verdict_by : (words : List (List ℕ)) (call : Call) (asked : Request) (contents : List ℕ → Option (List ℕ)) (job : Job) (part : List Tri) (moves : List Move) (o : Outcome) → IsOutcomeOf words contents o
+verdict_by : (words : List (List ℕ)) (call : Call) (asked : Request) (contents : List ℕ → Option (List ℕ)) (job : JobFields) (part : List Tri) (moves : List Move) (o : Outcome) → IsOutcomeOf words contents o
     → call.status ≡ outcome_status o → request words ≡ Some asked → AreTold (texts_of contents asked.files) → Reads (texts_of contents asked.files) job part moves
     → call.status ≢ 6 → HasVerdict job part moves call.status ⊎ (call.status ≡ 5)
 verdict_by words call asked contents job part moves (help shown) is e taken told read n6 = absurd (no_request words asked is.untaken taken)
@@ -167,17 +165,17 @@ verdict_by words call asked contents job part moves (bad_words shown) is e taken
 verdict_by words call asked contents job part moves (failed Memory) is e taken told read n6 = inr e
 verdict_by words call asked contents job part moves (failed (ReadFault file)) is e taken told read n6 = absurd (n6 e)
 verdict_by words call asked contents job part moves (failed (Unfit fault)) is e taken told read n6 =
-    let v = is_judged contents asked.files asked.workers job part moves (unfit fault) told read
+    let v = is_judged (texts_of contents asked.files) job part moves (unfit fault) told read
     (asked_outcome words contents (failed (Unfit fault)) asked is taken) in
     absurd (verdict_not 4 (no 0 4 (omega arith)) (no 3 4 (omega arith)) v.verdict (sym v.same))
 verdict_by words call asked contents job part moves (reported r) is e taken told read n6 =
     let s = asked_outcome words contents (reported r) asked is taken in
-    let v = is_judged contents asked.files asked.workers job part moves (judged r.job r.part r.moves s.is.verdict) told read
+    let v = is_judged (texts_of contents asked.files) job part moves (judged r.job r.part r.moves s.is.verdict) told read
     (judges (texts_of contents asked.files) r.texts r.job r.part r.moves s.is.verdict s.is.told s.job_ok s.moves_ok s.agree s.is.report) in
     inl (record { verdict = v.verdict; is = v.is; same = e ∙ s.is.status_is ∙ v.same })
 
 -- files that are told, hold what the reads gave and are read have a verdict, whose status it is, or memory was short
-has_verdict : (words : List (List ℕ)) (call : Call) (asked : Request) (contents : List ℕ → Option (List ℕ)) (job : Job) (part : List Tri) (moves : List Move) → HasOutcome words call
+has_verdict : (words : List (List ℕ)) (call : Call) (asked : Request) (contents : List ℕ → Option (List ℕ)) (job : JobFields) (part : List Tri) (moves : List Move) → HasOutcome words call
     → request words ≡ Some asked → HoldsReads contents call → AreTold (texts_of contents asked.files) → Reads (texts_of contents asked.files) job part moves
     → NoFault call → HasVerdict job part moves call.status ⊎ (call.status ≡ 5)
 has_verdict words call asked contents job part moves has taken holds told read fine =

@@ -1,7 +1,14 @@
-pub mod Taken
-mod Facts
-pub mod Loading
-pub mod Telling
-pub mod Blaming
-pub mod Headlines
+mod Taken
+mod Loading
+mod LiftLemmas
+mod Items
+mod Nothing
+mod Agreeing
+mod LineEnds
+mod Reporting
+mod FaultTexts
+mod Telling
+mod Blaming
+mod Headlines
 mod OneDocuments
+mod Facts

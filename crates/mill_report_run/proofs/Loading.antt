@@ -6,7 +6,7 @@ use Rattle.mill_base.specs.declared.motion.Move.{Move}
 use Rattle.mill_base.specs.declared.points.Tri.{Tri}
 use Rattle.mill_io.specs.Causes.{Rose}
 use Rattle.mill_io.specs.Views.{StoreView}
-use Rattle.mill_job.specs.declared.job.Job.{Job}
+use Rattle.mill_job.specs.declared.fields.JobFields.{JobFields}
 use Rattle.mill_load.proofs.Reading.{loads_on, under_loads}
 use Rattle.mill_load.specs.Loads.{CountsFault, IsSetup, JoinsPart, LoadsProgram, LoadsSetup, OnlyLoads, ReadsFile}
 use Rattle.mill_load.specs.Programs.{IsProgramText}
@@ -20,10 +20,9 @@ use Rattle.mill_load.specs.declared.load.Unfit.TheVariants.{TooLong, JobRefused,
 use Rattle.mill_report_run.specs.Outcomes.{AreTextsOf}
 use Rattle.mill_report_run.specs.declared.load.JobRead.{JobRead}
 use Rattle.mill_report_run.specs.declared.load.SetupRead.{SetupRead}
-use Rattle.mill_report_run.specs.inner.Loads.{AreSetupTexts, HoldsJob, HoldsSetup, IsOfThree, Loads, ReadsPart, ReadsSetup, ReadsSource}
-use Rattle.mill_report_text.specs.ReportFiles.{IsReportFile}
-use Rattle.mill_report_text.specs.Reports.{Read, Texts}
-use Rattle.mill_run.specs.Verify.{IsReadBeforeProgram, IsUnfitProgram, Reads, Texts as ToldTexts}
+use Rattle.mill_report_run.specs.inner.Loads.{AreSetupTexts, HoldsJob, HoldsSetup, IsOfThree, IsReportFile, Loads, ReadsPart, ReadsSetup, ReadsSource}
+use Rattle.mill_report_run.specs.Reports.{Read, Texts}
+use Rattle.mill_answer.specs.Verify.{IsReadBeforeProgram, IsUnfitProgram, Reads, Texts as ToldTexts}
 
 -- ---- one text
 
@@ -60,7 +59,7 @@ no_setup told (Unfit (ProgramRefused file fault)) h = absurd h
 no_setup told (Unfit (PartTop height top unit)) h = h
 
 -- job and part were read, and there were no moves
-pub no_moves : (told : ToldTexts) (job : Job) (part : List Tri) (f : LoadFault) → ReadsBoth told.setup job part
+pub no_moves : (told : ToldTexts) (job : JobFields) (part : List Tri) (f : LoadFault) → ReadsBoth told.setup job part
     → (let r : Result (Vec Move) LoadFault = Err f in LoadsProgram job told.program ProgramFile r) → Loads told (Err f)
 no_moves told job part Memory both h = tt
 no_moves told job part (ReadFault file) both h = subst (λ (x : File). IsReadBeforeProgram told x) (sym h) (job, part, both)
@@ -74,7 +73,7 @@ no_moves told job part (Unfit (ProgramRefused file fault)) both h =
 no_moves told job part (Unfit (PartTop height top unit)) both h = absurd h
 
 -- the program's file has no text
-pub no_program_text : (job : Job) (told : Option (List ℕ)) (f : LoadFault) → (let r : Result (Vec ℕ) LoadFault = Err f in ReadsFile told ProgramFile r)
+pub no_program_text : (job : JobFields) (told : Option (List ℕ)) (f : LoadFault) → (let r : Result (Vec ℕ) LoadFault = Err f in ReadsFile told ProgramFile r)
     → (let r : Result (Vec Move) LoadFault = Err f in LoadsProgram job told ProgramFile r)
 no_program_text job told Memory h = tt
 no_program_text job told (ReadFault file) h = h
@@ -86,7 +85,7 @@ no_program_text job told (Unfit (ProgramRefused file fault)) h = absurd h
 no_program_text job told (Unfit (PartTop height top unit)) h = absurd h
 
 -- or its text, which is what is told of it, has no moves
-pub no_text_moves : (job : Job) (told : Option (List ℕ)) (text : List ℕ) (f : LoadFault) → IfSome told (λ bytes. text ≡ bytes)
+pub no_text_moves : (job : JobFields) (told : Option (List ℕ)) (text : List ℕ) (f : LoadFault) → IfSome told (λ bytes. text ≡ bytes)
     → (let r : Result (Vec Move) LoadFault = Err f in LoadsProgram job (Some text) ProgramFile r) → (let r : Result (Vec Move) LoadFault = Err f in LoadsProgram job told ProgramFile r)
 no_text_moves job None text Memory same h = tt
 no_text_moves job None text (ReadFault file) same h = h
@@ -117,15 +116,15 @@ program_of_three told (Unfit fault) h = tt
 -- ---- what was read
 
 -- job and part are those of their files
-pub both_read : (told : ToldTexts) (r : SetupRead) → AreSetupTexts told.setup r → HoldsSetup r → ReadsBoth told.setup r.setup.job r.setup.part
+pub both_read : (told : ToldTexts) (r : SetupRead) → AreSetupTexts told.setup r → HoldsSetup r → ReadsBoth told.setup r.setup.job.fields r.setup.part
 both_read told r agree holds = record {
-  job_is = if_told (λ text. IsJobText text r.setup.job) told.setup.job r.job agree.job holds.job_is;
-  part_is = if_told (λ text. IsPartText r.setup.job text r.setup.part) told.setup.part r.part agree.part holds.part_is;
-  under = holds.setup_ok.under;
+  job_is = if_told (λ text. IsJobText text r.setup.job.fields) told.setup.job r.job agree.job holds.job_is;
+  part_is = if_told (λ text. IsPartText r.setup.job.fields text r.setup.part) told.setup.part r.part agree.part holds.part_is;
+  under = holds.under;
 }
 
 -- so are all three
-pub all_read : (told : ToldTexts) (texts : Texts) (job : Job) (part : List Tri) (moves : List Move) → AreTextsOf told texts → Read texts job part moves → Reads told job part moves
+pub all_read : (told : ToldTexts) (texts : Texts) (job : JobFields) (part : List Tri) (moves : List Move) → AreTextsOf told texts → Read texts job part moves → Reads told job part moves
 all_read told texts job part moves agree read = record {
   setup_is = record {
     job_is = if_told (λ text. IsJobText text job) told.setup.job texts.job agree.job read.job_is;
@@ -136,12 +135,12 @@ all_read told texts job part moves agree read = record {
 }
 
 -- the part that was put to the job leaves both as their texts read
-pub joined_holds : (before : JobRead) (part : List Tri) (r : SetupRead) → HoldsJob before → IsPartText before.job r.part part → r.job ≡ before.source → IsSetup r.setup
-    → (let s : Result Setup LoadFault = Ok r.setup in JoinsPart before.job part s) → HoldsSetup r
-joined_holds before part r holds is stays setup_ok h = record {
-  setup_ok = setup_ok;
-  job_is = subst (λ (text : List ℕ). IsJobText text r.setup.job) (sym stays) (subst (λ (j : Job). IsJobText before.source j) (sym h.0) holds.is);
-  part_is = subst (λ (j : Job). IsPartText j r.part r.setup.part) (sym h.0) (subst (λ (p : List Tri). IsPartText before.job r.part p) (sym h.1) is);
+pub joined_holds : (before : JobRead) (part : List Tri) (r : SetupRead) → HoldsJob before → IsPartText before.job.fields r.part part → r.job ≡ before.source → IsSetup r.setup
+    → (let s : Result Setup LoadFault = Ok r.setup in JoinsPart before.job.fields part s) → HoldsSetup r
+joined_holds before part r holds is stays under h = record {
+  job_is = subst (λ (text : List ℕ). IsJobText text r.setup.job.fields) (sym stays) (subst (λ (j : JobFields). IsJobText before.source j) (sym h.0) holds);
+  part_is = subst (λ (j : JobFields). IsPartText j r.part r.setup.part) (sym h.0) (subst (λ (p : List Tri). IsPartText before.job.fields r.part p) (sym h.1) is);
+  under = under;
 }
 
 -- the job was read, and this is what the part's file came to
@@ -150,7 +149,7 @@ pub setup_read : (told : SetupTexts) (before : JobRead) (r : Result SetupRead Lo
 setup_read told before (Ok s) same holds h =
     record { job = subst (λ (items : List ℕ). IfSome told.job (λ bytes. items ≡ bytes)) (sym h.stays) same; part = h.same }
 setup_read told before (Err fault) same holds h =
-    under_loads told before.job (Err fault) (if_told (λ text. IsJobText text before.job) told.job before.source same holds.is) h
+    under_loads told before.job.fields (Err fault) (if_told (λ text. IsJobText text before.job.fields) told.job before.source same holds) h
 
 -- ---- the store
 

@@ -11,16 +11,15 @@ use Rattle.mill_base.specs.declared.unit.Unit.{Unit as LengthUnit}
 use Rattle.mill_block.specs.Lines.{after_line, made_list}
 use Rattle.mill_block.specs.declared.fault.NgcFault.{NgcFault}
 use Rattle.mill_block.specs.declared.progress.Progress.{Progress}
-use Rattle.mill_command.specs.Requests.{verify}
-use Rattle.mill_details.specs.Details.{failing_data, left_column}
+use Rattle.mill_document.specs.Details.{failing_data, left_column}
 use Rattle.mill_dexel.specs.Tops.{stock_after, uncut}
 use Rattle.mill_dexel.specs.Turns.{move_at}
 use Rattle.mill_document.specs.Documents.{column_data, fault_data, report_data, text_of}
 use Rattle.mill_job.specs.Columns.{home}
 use Rattle.mill_job.specs.Jobs.{tool_of}
-use Rattle.mill_job.specs.declared.job.Job.{Job}
-use Rattle.mill_lift.specs.Laws.{OneLift}
-use Rattle.mill_load.specs.Faults.{fault_status}
+use Rattle.mill_job.specs.declared.fields.JobFields.{JobFields}
+use Rattle.mill_gouge.specs.Laws.{OneLift}
+use Rattle.mill_answer.specs.Faults.{fault_status}
 use Rattle.mill_load.specs.declared.load.LoadFault.TheVariants.{Memory, ReadFault, Unfit}
 use Rattle.mill_load.specs.declared.load.Unfit.{Unfit as UnfitFault}
 use Rattle.mill_ngc.proofs.JoinLemmas.{pieces_join}
@@ -32,14 +31,12 @@ use Rattle.mill_report_run.proofs.Headlines.{judges}
 use Rattle.mill_report_run.proofs.Loading.{all_read}
 use Rattle.mill_report_run.specs.Laws.{IsDecided, OneDocument}
 use Rattle.mill_report_run.specs.Outcomes.{AreTextsOf, IsOutcome, IsTextOf, Outcome, Reported, Reports, bad_words, failed, help, outcome_status, reported}
-use Rattle.mill_report_text.specs.Reports.{AreFailing, IsLift, IsLiftOf, IsReport, IsReportText, Texts, sums_of, summary_of}
-use Rattle.mill_run.proofs.Answering.{same_job, same_moves, same_part}
-use Rattle.mill_run.specs.Answers.{judged, unfit}
-use Rattle.mill_run.specs.Laws.{OneAnswer}
-use Rattle.mill_run.specs.Verify.{AreTold, IsUnfitProgram, Judges, Reads, Texts as ToldTexts, texts_of, verdict_status}
-use Rattle.mill_run.specs.Words.{Files}
-use Rattle.mill_source.specs.Lines.{ArePlaces, IsPlace, first_lines, line_at, moves_to, with_ends}
-use Rattle.mill_source.specs.declared.place.Place.{Place}
+use Rattle.mill_report_run.specs.Reports.{AreFailing, IsLift, IsLiftOf, IsReport, IsReportText, Texts, sums_of, summary_of}
+use Rattle.mill_answer.proofs.Answering.{same_job, same_moves, same_part}
+use Rattle.mill_answer.specs.Judgments.{OneJudgment, judged, unfit}
+use Rattle.mill_answer.specs.Verify.{AreTold, IsUnfitProgram, Judges, Reads, Texts as ToldTexts, texts_of, verdict_status}
+use Rattle.mill_ngc.specs.Lines.{ArePlaces, IsPlace, first_lines, line_at, moves_to, with_ends}
+use Rattle.mill_ngc.specs.declared.place.LineSpan.{LineSpan}
 use Rattle.mill_verify.specs.Verdicts.{OneVerdict}
 use Rattle.mill_verify.specs.declared.verdict.Reason.{Reason}
 use Rattle.mill_verify.specs.declared.verdict.Reason.TheVariants.{Floor, Gouge, Holder, Rapid as RapidCut, Cut, HolderStock, Left}
@@ -95,12 +92,12 @@ no_fewer start unit text a b le =
     pieces_join (reading_at start unit, []) (first_lines a text) splits.0 ∙ ap (fed (reading_at start unit, [])) (sym splits.1) in
     subst (λ (s : Reading × List Move). length first.1 ≤ length s.1) whole (grows_fed first splits.0)
 
-not_before : (start : Pt3) (unit : LengthUnit) (text : List ℕ) (k : ℕ) (p q : Place) → IsPlace start unit text k p → IsPlace start unit text k q → p.line < q.line → ⊥
+not_before : (start : Pt3) (unit : LengthUnit) (text : List ℕ) (k : ℕ) (p q : LineSpan) → IsPlace start unit text k p → IsPlace start unit text k q → p.line < q.line → ⊥
 not_before start unit text k p q s t lt =
     let more : length (moves_to start unit text p.line) ≤ length (moves_to start unit text (q.line - 1)) = no_fewer start unit text p.line (q.line - 1) (omega (arith, lt)) in
     omega (arith, more, s.within, t.before)
 
-same_line : (start : Pt3) (unit : LengthUnit) (text : List ℕ) (k : ℕ) (p q : Place) → IsPlace start unit text k p → IsPlace start unit text k q → p.line ≡ q.line
+same_line : (start : Pt3) (unit : LengthUnit) (text : List ℕ) (k : ℕ) (p q : LineSpan) → IsPlace start unit text k p → IsPlace start unit text k q → p.line ≡ q.line
 same_line start unit text k p q s t = by (cases_lt p.line q.line) (cases_lt q.line p.line)
   where
     by : (p.line < q.line) ⊎ (q.line ≤ p.line) → (q.line < p.line) ⊎ (p.line ≤ q.line) → p.line ≡ q.line
@@ -108,10 +105,10 @@ same_line start unit text k p q s t = by (cases_lt p.line q.line) (cases_lt q.li
     by (inr most) (inl lt) = absurd (not_before start unit text k q p t s lt)
     by (inr most) (inr least) = omega (arith, most, least)
 
-same_place : (p q : Place) → p.line ≡ q.line → p.start ≡ q.start → p.end ≡ q.end → p ≡ q
+same_place : (p q : LineSpan) → p.line ≡ q.line → p.start ≡ q.start → p.end ≡ q.end → p ≡ q
 same_place p q line start end_is = ap (λ n. made n p.start p.end) line ∙ ap (λ n. made q.line n p.end) start ∙ ap (λ n. made q.line q.start n) end_is
   where
-    made : ℕ → ℕ → ℕ → Place
+    made : ℕ → ℕ → ℕ → LineSpan
     made line start end_is = record { line = line; start = start; «end» = end_is }
 
 -- the line of a place has the bytes from its start to its end
@@ -121,7 +118,7 @@ length-slice text a b order within =
     length-take-le (b - a) (drop a text) rest
 
 -- a move has one place
-one_place : (start : Pt3) (unit : LengthUnit) (text : List ℕ) (k : ℕ) (p q : Place) → IsPlace start unit text k p → IsPlace start unit text k q → p ≡ q
+one_place : (start : Pt3) (unit : LengthUnit) (text : List ℕ) (k : ℕ) (p q : LineSpan) → IsPlace start unit text k p → IsPlace start unit text k q → p ≡ q
 one_place start unit text k p q s t =
     let line : p.line ≡ q.line = same_line start unit text k p q s t in
     let begins : p.start ≡ q.start = s.begins ∙ ap (λ n. length (first_lines (n - 1) text)) line ∙ sym t.begins in
@@ -130,21 +127,21 @@ one_place start unit text k p q s t =
     same_place p q line begins (omega (arith, begins, size, s.order, t.order))
 
 -- a text's moves have one list of places
-one_places : (start : Pt3) (unit : LengthUnit) (text : List ℕ) (a b : List Place) → ArePlaces start unit text a → ArePlaces start unit text b → a ≡ b
+one_places : (start : Pt3) (unit : LengthUnit) (text : List ℕ) (a b : List LineSpan) → ArePlaces start unit text a → ArePlaces start unit text b → a ≡ b
 one_places start unit text a b s t =
-    let other : Place = record { line = 0; start = 0; «end» = 0 } in
+    let other : LineSpan = record { line = 0; start = 0; «end» = 0 } in
     let count : length a ≡ length b = s.count ∙ sym t.count in
     ext_get_or other a b count (λ i lt. one_place start unit text i (get_or a i other) (get_or b i other) (s.each i other lt) (t.each i other (omega (arith, count, lt))))
 
 -- ---- the lifts
 
-one_lift_of : OneLift → (job : Job) (part : List Tri) (m : Move) (a b : Option ℤ) → IsLiftOf job part m a → IsLiftOf job part m b → a ≡ b
+one_lift_of : OneLift → (job : JobFields) (part : List Tri) (m : Move) (a b : Option ℤ) → IsLiftOf job part m a → IsLiftOf job part m b → a ≡ b
 one_lift_of one job part m None None s t = refl
 one_lift_of one job part m None (Some b) s t = absurd (s t.0)
 one_lift_of one job part m (Some a) None s t = absurd (t s.0)
 one_lift_of one job part m (Some a) (Some b) (room, (n, e, least)) (again, (k, f, smallest)) = ap Some (e ∙ ap pos (one (tool_of job) part m n k least smallest) ∙ sym f)
 
-one_lift_for : OneLift → (job : Job) (part : List Tri) (moves : List Move) (reason : Reason) (a b : Option ℤ) → IsLift job part moves reason a → IsLift job part moves reason b → a ≡ b
+one_lift_for : OneLift → (job : JobFields) (part : List Tri) (moves : List Move) (reason : Reason) (a b : Option ℤ) → IsLift job part moves reason a → IsLift job part moves reason b → a ≡ b
 one_lift_for one job part moves (Gouge k t leaf) a b g h = one_lift_of one job part (move_at moves k) a b g h
 one_lift_for one job part moves (Holder k t leaf) a b g h = one_lift_of one job part (move_at moves k) a b g h
 one_lift_for one job part moves (Floor k) a b g h = g ∙ sym h
@@ -154,7 +151,7 @@ one_lift_for one job part moves (HolderStock k j i leaf) a b g h = g ∙ sym h
 one_lift_for one job part moves (Left j i top) a b g h = g ∙ sym h
 
 -- findings have one list of lifts
-one_lifts : OneLift → (job : Job) (part : List Tri) (moves : List Move) (found : List Reason) (a b : List (Option ℤ)) → AllZip (IsLift job part moves) found a → AllZip (IsLift job part moves) found b → a ≡ b
+one_lifts : OneLift → (job : JobFields) (part : List Tri) (moves : List Move) (found : List Reason) (a b : List (Option ℤ)) → AllZip (IsLift job part moves) found a → AllZip (IsLift job part moves) found b → a ≡ b
 one_lifts one job part moves [] [] [] s t = refl
 one_lifts one job part moves [] [] (y ∷ b) s t = absurd t
 one_lifts one job part moves [] (x ∷ a) b s t = absurd s
@@ -166,7 +163,7 @@ one_lifts one job part moves (reason ∷ found) (x ∷ a) (y ∷ b) (s, ss) (t, 
 -- ---- the document
 
 -- findings have one list of items
-one_failing : OneLift → (texts : Texts) (job : Job) (part : List Tri) (moves : List Move) (found : List Reason) (a b : List Data) → AreFailing texts job part moves found a → AreFailing texts job part moves found b → a ≡ b
+one_failing : OneLift → (texts : Texts) (job : JobFields) (part : List Tri) (moves : List Move) (found : List Reason) (a b : List Data) → AreFailing texts job part moves found a → AreFailing texts job part moves found b → a ≡ b
 one_failing one texts job part moves [] a b s t = s ∙ sym t
 one_failing one texts job part moves (reason ∷ found) a b s t =
     s.items_are
@@ -174,14 +171,14 @@ one_failing one texts job part moves (reason ∷ found) a b s t =
     ∙ ap (λ lifts. failing_data job part moves texts.program t.places (reason ∷ found) lifts) (one_lifts one job part moves (reason ∷ found) s.lifts t.lifts s.lifts_are t.lifts_are)
     ∙ sym t.items_are
 
-same_data : (texts : Texts) (job : Job) (moves : List Move) (verdict : Verdict) (line other : List ℕ) (failing items : List Data) (left columns : List LeftColumn) (n m : ℕ)
+same_data : (texts : Texts) (job : JobFields) (moves : List Move) (verdict : Verdict) (line other : List ℕ) (failing items : List Data) (left columns : List LeftColumn) (n m : ℕ)
     → line ≡ other → failing ≡ items → left ≡ columns → n ≡ m
     → report_data line (sums_of texts) (summary_of job moves verdict n) failing (map (λ c. column_data job.unit (left_column job c)) left)
     ≡ report_data other (sums_of texts) (summary_of job moves verdict m) items (map (λ c. column_data job.unit (left_column job c)) columns)
 same_data texts job moves verdict line other failing items left columns n m e f g h = rw (e, f, g, h) refl
 
 -- a verdict on texts has one document
-one_data : OneList → OneLeft → OneLift → (texts : Texts) (job : Job) (part : List Tri) (moves : List Move) (verdict : Verdict) (a b : Data) → IsReport texts job part moves verdict a
+one_data : OneList → OneLeft → OneLift → (texts : Texts) (job : JobFields) (part : List Tri) (moves : List Move) (verdict : Verdict) (a b : Data) → IsReport texts job part moves verdict a
     → IsReport texts job part moves verdict b → a ≡ b
 one_data list left lift texts job part moves verdict a b s t =
     let line : s.line ≡ t.line = append_cancel_right s.line t.line (10 ∷ []) (sym s.line_is ∙ t.line_is) in
@@ -210,7 +207,7 @@ one_texts told a b all s t =
     (told_once told.program a.program b.program all.program s.program t.program)
 
 -- texts, what they read as and the verdict have one report
-one_text : OneVerdict → OneList → OneLeft → OneLift → (texts : Texts) (job : Job) (part : List Tri) (moves : List Move) (a b : List ℕ) (n m : ℕ) → IsReportText texts job part moves a n
+one_text : OneVerdict → OneList → OneLeft → OneLift → (texts : Texts) (job : JobFields) (part : List Tri) (moves : List Move) (a b : List ℕ) (n m : ℕ) → IsReportText texts job part moves a n
     → IsReportText texts job part moves b m → (a ≡ b) × (n ≡ m)
 one_text verdict list left lift texts job part moves a b n m s t =
     let same : s.verdict ≡ t.verdict = verdict job part moves s.verdict t.verdict s.report.verdict_is t.report.verdict_is in
@@ -227,7 +224,7 @@ same_reported a b e f g h i j =
     ∙ ap (λ x. made b.texts b.job b.part b.moves x a.status) i
     ∙ ap (λ x. made b.texts b.job b.part b.moves b.report x) j
   where
-    made : Texts → Job → List Tri → List Move → List ℕ → ℕ → Reported
+    made : Texts → JobFields → List Tri → List Move → List ℕ → ℕ → Reported
     made texts job part moves report status = record { texts = texts; job = job; part = part; moves = moves; report = report; status = status }
 
 one_report : OneVerdict → OneList → OneLeft → OneLift → (told : ToldTexts) (a b : Reported) → AreTold told → Reports told a → Reports told b → a ≡ b
@@ -247,21 +244,21 @@ one_report verdict list left lift told a b all s t =
 unfit_is : (f g : UnfitFault) → unfit f ≡ unfit g → f ≡ g
 unfit_is f g e = cc
 
-not_judged : (f : UnfitFault) (job : Job) (part : List Tri) (moves : List Move) (v : Verdict) → unfit f ≡ judged job part moves v → ⊥
+not_judged : (f : UnfitFault) (job : JobFields) (part : List Tri) (moves : List Move) (v : Verdict) → unfit f ≡ judged job part moves v → ⊥
 not_judged f job part moves v e = cc
 
-module _ (answer : OneAnswer) (contents : List ℕ → Option (List ℕ)) (files : Files) (told : AreTold (texts_of contents files)) where
-  is_judgment : (r : Reported) → (s : Reports (texts_of contents files) r) → Judges (texts_of contents files) r.job r.part r.moves s.is.verdict
-  is_judgment r s = judges (texts_of contents files) r.texts r.job r.part r.moves s.is.verdict s.is.told s.job_ok s.moves_ok s.agree s.is.report
+module _ (judgment : OneJudgment) (told : ToldTexts) (all : AreTold told) where
+  is_judgment : (r : Reported) → (s : Reports told r) → Judges told r.job r.part r.moves s.is.verdict
+  is_judgment r s = judges told r.texts r.job r.part r.moves s.is.verdict s.is.told s.job_ok s.moves_ok s.agree s.is.report
 
-  one_fault : (f g : UnfitFault) → IsUnfitProgram (texts_of contents files) f → IsUnfitProgram (texts_of contents files) g → f ≡ g
-  one_fault f g s t = unfit_is f g (answer contents (verify files.job files.part files.program 1) (unfit f) (unfit g) told s t)
+  one_fault : (f g : UnfitFault) → IsUnfitProgram told f → IsUnfitProgram told g → f ≡ g
+  one_fault f g s t = unfit_is f g (judgment told (unfit f) (unfit g) all s t)
 
-  either : (f : UnfitFault) (r : Reported) → IsUnfitProgram (texts_of contents files) f → Reports (texts_of contents files) r → ⊥
-  either f r s t = not_judged f r.job r.part r.moves t.is.verdict (answer contents (verify files.job files.part files.program 1) (unfit f) (judged r.job r.part r.moves t.is.verdict) told s (is_judgment r t))
+  either : (f : UnfitFault) (r : Reported) → IsUnfitProgram told f → Reports told r → ⊥
+  either f r s t = not_judged f r.job r.part r.moves t.is.verdict (judgment told (unfit f) (judged r.job r.part r.moves t.is.verdict) all s (is_judgment r t))
 
-  one_outcome : ((a b : Reported) → Reports (texts_of contents files) a → Reports (texts_of contents files) b → a ≡ b) → (a b : Outcome) → IsDecided a → IsDecided b
-      → IsOutcome (texts_of contents files) a → IsOutcome (texts_of contents files) b → a ≡ b
+  one_outcome : ((a b : Reported) → Reports told a → Reports told b → a ≡ b) → (a b : Outcome) → IsDecided a → IsDecided b
+      → IsOutcome told a → IsOutcome told b → a ≡ b
   one_outcome report (help shown) b d e s t = absurd d
   one_outcome report (bad_words shown) b d e s t = absurd d
   one_outcome report (failed Memory) b d e s t = absurd d
@@ -287,7 +284,7 @@ one_telling (failed fault) s t g h =
     g.text_is ∙ ap (λ l. text_of (fault_data l (fault_status fault))) (append_cancel_right g.line h.line (10 ∷ []) (sym g.line_is ∙ h.line_is)) ∙ sym h.text_is
 one_telling (reported r) s t g h = g ∙ sym h
 
-pub one_document_of : OneAnswer → OneVerdict → OneList → OneLeft → OneLift → OneDocument
-one_document_of answer verdict list left lift = λ contents files a b s t told d e is other g h.
-    let same : a ≡ b = one_outcome answer contents files told (λ r q u v. one_report verdict list left lift (texts_of contents files) r q told u v) a b d e is other in
+pub one_document_of : OneJudgment → OneVerdict → OneList → OneLeft → OneLift → OneDocument
+one_document_of judgment verdict list left lift = λ contents files a b s t told d e is other g h.
+    let same : a ≡ b = one_outcome judgment (texts_of contents files) told (λ r q u v. one_report verdict list left lift (texts_of contents files) r q told u v) a b d e is other in
     (one_telling b s t (subst (λ (o : Outcome). IsTextOf o s) same g) h, ap outcome_status same)

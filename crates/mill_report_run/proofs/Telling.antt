@@ -4,7 +4,7 @@ use Rattle.std.specs.Prelude.{◌↔◌, IsSome}
 use Rattle.mill_command.specs.declared.refusal.Refusal.{Refusal}
 use Rattle.mill_command.specs.declared.refusal.Refusal.TheVariants as refusal
 use Rattle.mill_io.specs.Views.{ReadsOnly, StoreView}
-use Rattle.mill_load.proofs.Reading.{rises}
+use Rattle.mill_answer.proofs.Counts.{rises}
 use Rattle.mill_io.proofs.Held.{held_none}
 use Rattle.mill_io.specs.Readings.{AreHeld, Reading}
 use Rattle.mill_load.specs.Loads.{NamesFault, OnlyLoads}
@@ -14,13 +14,11 @@ use Rattle.mill_load.specs.declared.load.LoadFault.TheVariants.{Memory, ReadFaul
 use Rattle.mill_report_run.specs.Outcomes.{AreTextsOf, CountsReads, Fails, HasOutcome, IsOutcome, IsOutcomeOf, Outcome, Shows, bad_words, failed, help, name_in, reported}
 use Rattle.mill_report_run.specs.Words.{ReadsWords, Request, request}
 use Rattle.mill_report_run.specs.declared.load.Loaded.{Loaded}
-use Rattle.mill_report_run.specs.inner.Loads.{IsReady, Loads}
+use Rattle.mill_report_run.specs.inner.Loads.{IsReady, IsReportFile, Loads}
 use Rattle.mill_report_run.specs.inner.Prints.{PrintsFault, PrintsOutcome, Serves, TriesReport, refusal_outcome}
-use Rattle.mill_report_text.specs.ReportFiles.{IsReportFile}
-use Rattle.mill_report_text.specs.Sources.{texts_of_sources}
-use Rattle.mill_run.specs.Calls.{Call, CanCount, HoldsReads}
-use Rattle.mill_run.specs.Verify.{texts_of}
-use Rattle.mill_run.specs.Words.{Files}
+use Rattle.mill_report_run.specs.inner.Sources.{texts_of_sources}
+use Rattle.mill_answer.specs.Calls.{Call, CanCount, HoldsReads}
+use Rattle.mill_answer.specs.Verify.{Files, texts_of}
 
 -- what was printed of an outcome shows it
 pub outcome_shows : (call : Call) (o : Outcome) → ReadsOnly call.store call.store_after → CountsReads o call.store.read_faults call.store_after.read_faults
@@ -33,8 +31,8 @@ outcome_shows call o only reads p = record { text = p.text; text_is = p.is; prin
 pub report_serves : (files : Files) (call : Call) (l : Loaded) → ((contents : List ℕ → Option (List ℕ)) → HoldsReads contents call → AreTextsOf (texts_of contents files) (texts_of_sources l.sources))
     → IsReady l → (let r : Result Loaded LoadFault = Ok l in OnlyLoads call.store call.store_after r) → TriesReport l call.status call.sink call.sink_after → Serves files call
 report_serves files call l agree ready loads (inl p) = record {
-  outcome = reported (record { texts = texts_of_sources l.sources; job = l.setup.job; part = l.setup.part; moves = l.moves.items; report = p.report; status = p.code });
-  is = λ contents held. record { agree = agree contents held; job_ok = ready.job_ok; moves_ok = ready.moves_ok; is = p.is };
+  outcome = reported (record { texts = texts_of_sources l.sources; job = l.setup.job.fields; part = l.setup.part; moves = l.moves.items; report = p.report; status = p.code });
+  is = λ contents held. record { agree = agree contents held; job_ok = l.setup.job.is_job; moves_ok = ready.moves_ok; is = p.is };
   held = loads.held;
   fails = tt;
   shows = record { text = p.report; text_is = refl; printed = p.printed; only = loads.only; reads = loads.reads };

@@ -5,15 +5,13 @@ use Rattle.mill_base.specs.declared.points.Tri.{Tri}
 use Rattle.mill_document.specs.Documents.{text_of}
 use Rattle.mill_io.specs.Views.{IsWritten}
 use Rattle.mill_job.specs.Jobs.{IsJob}
-use Rattle.mill_job.specs.declared.job.Job.{Job}
+use Rattle.mill_job.specs.declared.fields.JobFields.{JobFields}
 use Rattle.mill_load.specs.Loads.{AreMoves}
 use Rattle.mill_report_run.specs.Outcomes.{AreTextsOf}
 use Rattle.mill_report_run.specs.Words.{Request, RefusesWords, ShowsHelp, is_taken, request}
-use Rattle.mill_report_text.specs.Reports.{IsReport, Texts}
-use Rattle.mill_run.specs.Calls.{Call, HoldsReads, NoFault}
-use Rattle.mill_run.specs.Headline.{AcceptsSafely}
-use Rattle.mill_run.specs.Verify.{AreTold, Reads, texts_of}
-use Rattle.mill_run.specs.Words.{Files}
+use Rattle.mill_report_run.specs.Reports.{IsReport, Texts}
+use Rattle.mill_answer.specs.Calls.{Call, HoldsReads, NoFault}
+use Rattle.mill_answer.specs.Verify.{AcceptsSafely, AreTold, Files, Reads, texts_of}
 use Rattle.mill_verify.specs.Verdicts.{IsRejection}
 use Rattle.mill_verify.specs.declared.verdict.Reason.{Reason}
 use Rattle.mill_verify.specs.declared.verdict.Verdict.{Verdict}
@@ -24,7 +22,7 @@ use Rattle.serde_json.specs.Data.{Data}
 
 -- where the files are told, hold what the reads gave and are read, the part isn't over the job's top and nothing of the outside failed, a program is accepted or rejected, or memory was short
 abbrev pub Completes : List (List ℕ) → Call → Type 0
-Completes words call = (asked : Request) (contents : List ℕ → Option (List ℕ)) (job : Job) (part : List Tri) (moves : List Move) → request words ≡ Some asked
+Completes words call = (asked : Request) (contents : List ℕ → Option (List ℕ)) (job : JobFields) (part : List Tri) (moves : List Move) → request words ≡ Some asked
     → HoldsReads contents call → AreTold (texts_of contents asked.files) → Reads (texts_of contents asked.files) job part moves
     → NoFault call → (call.status ≡ 0) ⊎ ((call.status ≡ 3) ⊎ (call.status ≡ 5))
 
@@ -42,7 +40,7 @@ pub record Untaken (words : List (List ℕ)) (call : Call) : Type 0 where
 pub record PrintsReport (call : Call) (files : Files) (verdict : Verdict) : Type 0 where
   pub texts : Texts
   pub agree : (contents : List ℕ → Option (List ℕ)) → HoldsReads contents call → AreTextsOf (texts_of contents files) texts
-  pub job : Job
+  pub job : JobFields
   pub part : List Tri
   pub moves : List Move
   pub job_ok : IsJob job
@@ -68,6 +66,6 @@ pub record Headline (words : List (List ℕ)) (call : Call) : Type 0 where
   pub accepts : (asked : Request) → request words ≡ Some asked → call.status ≡ 0 → AcceptsSafely call asked.files
   pub clean : (asked : Request) → request words ≡ Some asked → call.status ≡ 0 → PrintsAcceptance call asked.files
   pub rejects : (asked : Request) → request words ≡ Some asked → call.status ≡ 3 → (reason : Reason) × PrintsReport call asked.files (Reject reason)
-  pub exactly : (asked : Request) (contents : List ℕ → Option (List ℕ)) (job : Job) (part : List Tri) (moves : List Move) (reason : Reason) → request words ≡ Some asked
+  pub exactly : (asked : Request) (contents : List ℕ → Option (List ℕ)) (job : JobFields) (part : List Tri) (moves : List Move) (reason : Reason) → request words ≡ Some asked
       → HoldsReads contents call → AreTold (texts_of contents asked.files) → Reads (texts_of contents asked.files) job part moves → IsRejection job part moves reason
       → NoFault call → call.status ≢ 5 → call.status ≡ 3

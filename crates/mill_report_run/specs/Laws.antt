@@ -2,8 +2,7 @@
 use Rattle.std.specs.Prelude.{◌≡◌, ℕ, List, Option}
 use Rattle.mill_load.specs.declared.load.LoadFault.TheVariants.{Unfit}
 use Rattle.mill_report_run.specs.Outcomes.{IsOutcome, IsTextOf, Outcome, failed, outcome_status, reported}
-use Rattle.mill_run.specs.Verify.{AreTold, texts_of}
-use Rattle.mill_run.specs.Words.{Files}
+use Rattle.mill_answer.specs.Verify.{AreTold, Files, texts_of}
 
 -- the files decide it: a report, or what keeps them from one, but neither want of memory nor a failed read
 abbrev pub IsDecided : Outcome → Type 0

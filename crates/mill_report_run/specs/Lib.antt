@@ -1,4 +1,5 @@
 pub mod Words
+pub mod Reports
 pub mod Outcomes
 pub mod Headline
 pub mod Laws

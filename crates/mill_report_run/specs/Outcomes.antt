@@ -5,24 +5,23 @@ use Rattle.mill_base.specs.declared.points.Tri.{Tri}
 use Rattle.mill_io.specs.Readings.{LastFails, Reading}
 use Rattle.mill_io.specs.Views.{ReadsOnly}
 use Rattle.mill_job.specs.Jobs.{IsJob}
-use Rattle.mill_job.specs.declared.job.Job.{Job}
-use Rattle.mill_load.specs.Faults.{fault_status}
+use Rattle.mill_job.specs.declared.fields.JobFields.{JobFields}
+use Rattle.mill_answer.specs.Faults.{fault_status}
 use Rattle.mill_load.specs.Loads.{AreMoves}
-use Rattle.mill_load.specs.Prints.{Prints}
+use Rattle.mill_answer.specs.Prints.{Prints}
 use Rattle.mill_load.specs.declared.file.File.{File}
 use Rattle.mill_load.specs.declared.file.File.TheVariants.{Job as JobFile, Part as PartFile, Program as ProgramFile}
 use Rattle.mill_load.specs.declared.load.LoadFault.{LoadFault}
 use Rattle.mill_load.specs.declared.load.LoadFault.TheVariants.{Memory, ReadFault, Unfit}
-use Rattle.mill_report_text.specs.Reports.{IsFaultText, IsReportText, Texts}
+use Rattle.mill_report_run.specs.Reports.{IsFaultText, IsReportText, Texts}
 use Rattle.mill_report_run.specs.Words.{Request, RefusesWords, ShowsHelp, request}
-use Rattle.mill_run.specs.Calls.{Call, HoldsReads}
-use Rattle.mill_run.specs.Verify.{IsReadBeforeProgram, IsUnfitProgram, Texts as ToldTexts, texts_of}
-use Rattle.mill_run.specs.Words.{Files}
+use Rattle.mill_answer.specs.Calls.{Call, HoldsReads}
+use Rattle.mill_answer.specs.Verify.{Files, IsReadBeforeProgram, IsUnfitProgram, Texts as ToldTexts, texts_of}
 
 -- a report: the texts of the three files, the job, the part and the moves that they read as, and the report's text and status
 pub record Reported : Type 0 where
   pub texts : Texts
-  pub job : Job
+  pub job : JobFields
   pub part : List Tri
   pub moves : List Move
   pub report : List ℕ

@@ -6,7 +6,7 @@ use Rattle.mill_command.specs.Set.{place, workers}
 use Rattle.mill_command.specs.declared.refusal.Refusal.{Refusal}
 use Rattle.mill_command.specs.declared.refusal.Refusal.TheVariants as refusal
 use Rattle.mill_report_run.specs.declared.words.Asked.{Asked}
-use Rattle.mill_run.specs.Words.{Files}
+use Rattle.mill_answer.specs.Verify.{Files}
 
 -- the names of the three files, and how many threads share the work
 pub record Request : Type 0 where

@@ -1,18 +1,18 @@
 //! The end of the program: its exit status.
 ghost use Rattle.std.specs.Prelude.{◌≡◌, IfErr, IfOk, false, map, string_bytes};
+ghost use Rattle.mill_answer.specs.Calls.{BlamesFaults, CanCount, ended_call};
 ghost use Rattle.mill_io.specs.Readings.{AreHeld};
 ghost use Rattle.mill_io.specs.Views.{ReadsOnly};
 ghost use Rattle.mill_load.specs.declared.load.LoadFault.TheVariants.{Memory};
 ghost use Rattle.mill_report_run.specs.Headline.{Completes, Headline, Untaken};
 ghost use Rattle.mill_report_run.specs.Outcomes.{HasOutcome, Shows, failed};
 ghost use Rattle.mill_report_run.specs.Words.{is_taken};
-ghost use Rattle.mill_run.specs.Calls.{BlamesFaults, CanCount, ended_call};
 
 use crate::program::run;
 use crate::tell::tell_memory;
+use mill_answer::exit_code_of;
 use mill_base::WantOfMemory;
 use mill_io::{Shelf, Sink};
-use mill_run::exit_code_of;
 use std::alloc::Global;
 use std::process::ExitCode;
 use std::thread::Threads;
@@ -48,21 +48,26 @@ pub fn end<R: Threads + Sync, S: Shelf, O: Sink>(
 
     // What the call came to, by whatever the files hold, if they hold what the reads gave, and what
     // was printed; the code is the outcome's.
-    ensures outcome { IfOk words (λ words. HasOutcome (map string_bytes words.items) (ended_call result
+    ensures outcome { IfOk words (λ words.
+        HasOutcome (map string_bytes words.items) (ended_call result
         (S.shows shelf.old) (S.shows shelf.new) (O.shows out.old) (O.shows out.new))) }
 
     // Where the files are told and read, nothing of the outside failed and memory was enough, it is
     // 0 or 3, and what these mean; and what it is where the words aren't taken.
-    ensures completes { IfOk words (λ words. Completes (map string_bytes words.items) (ended_call result
+    ensures completes { IfOk words (λ words.
+        Completes (map string_bytes words.items) (ended_call result
         (S.shows shelf.old) (S.shows shelf.new) (O.shows out.old) (O.shows out.new))) }
-    ensures untaken { IfOk words (λ words. Untaken (map string_bytes words.items) (ended_call result
+    ensures untaken { IfOk words (λ words.
+        Untaken (map string_bytes words.items) (ended_call result
         (S.shows shelf.old) (S.shows shelf.new) (O.shows out.old) (O.shows out.new))) }
-    ensures headline { IfOk words (λ words. Headline (map string_bytes words.items) (ended_call result
+    ensures headline { IfOk words (λ words.
+        Headline (map string_bytes words.items) (ended_call result
         (S.shows shelf.old) (S.shows shelf.new) (O.shows out.old) (O.shows out.new))) }
 
     // Without memory for the words that is shown.
     ensures short { IfErr words (λ _. Shows (ended_call result
-        (S.shows shelf.old) (S.shows shelf.new) (O.shows out.old) (O.shows out.new)) (failed Memory)) }
+        (S.shows shelf.old) (S.shows shelf.new) (O.shows out.old) (O.shows out.new))
+        (failed Memory)) }
 {
     match words {
         Ok(words) => exit_code_of(run(rt, alloc, &words, shelf, out)),

@@ -1,8 +1,8 @@
 ghost use Rattle.mill_report_run.specs.Laws.{OneDocument};
 
-use mill_lift::one_lift;
+use mill_answer::one_judgment;
+use mill_gouge::one_lift;
 use mill_report::{one_left, one_list};
-use mill_run::one_answer;
 use mill_verify::one_verdict;
 
 /// There is one document, and one status, on files that are told.
@@ -13,10 +13,10 @@ use mill_verify::one_verdict;
 pub fn one_document()
     ensures { OneDocument }
 {
-    // Laws without code: there is at most one answer to the files, one verdict on a program, one
+    // Laws without code: there is at most one judgment on the files, one verdict on a program, one
     // list of its findings, one of the columns that it leaves too high, and one least lift of a
     // move.
-    one_answer();
+    one_judgment();
     one_verdict();
     one_list();
     one_left();

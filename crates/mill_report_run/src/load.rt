@@ -1,26 +1,28 @@
-//! Reading the three files. Each text is kept, so that the checksums of a report are those of the very
-//! bytes that were judged. They begin as soon as a text is there, and go on beside all that follows.
+//! Reading the three files. Each text is kept, so that the checksums of a report are those of the
+//! very bytes that were judged. They begin as soon as a text is there, and go on beside all that
+//! follows.
 ghost use Rattle.std.specs.Prelude.{◌≡◌, ◌≤◌, IfErr, IfOk, IfSome, List, ℕ, Option, length};
+ghost use Rattle.mill_answer.specs.Verify.{Texts as ToldTexts, texts_of};
 ghost use Rattle.mill_io.specs.Readings.{AreHeld};
-ghost use Rattle.mill_load.specs.Loads.{CountsFault, NamesFault, OnlyLoads};
-ghost use Rattle.mill_load.specs.Setup.{Fits, FitsJobFile, IsPartText, most_bytes, setup_texts};
 ghost use Rattle.mill_load.specs.declared.file.File.{File as AnyFile};
 ghost use Rattle.mill_load.specs.declared.file.File.TheVariants.{Job as JobFile, Part as PartFile, Program as ProgramFile};
+ghost use Rattle.mill_load.specs.Loads.{CountsFault, NamesFault, OnlyLoads};
+ghost use Rattle.mill_load.specs.Setup.{Fits, FitsJobFile, IsPartText, most_bytes, setup_texts};
 ghost use Rattle.mill_report_run.specs.inner.Loads.{AreSetupTexts, HoldsJob, HoldsSetup, IsOfThree, IsReady, Loads, ReadsJob, ReadsPart, ReadsSetup, ReadsSource};
-ghost use Rattle.mill_run.specs.Verify.{Texts as ToldTexts, texts_of};
 
+use crate::source::Source;
+use crate::sources::Sources;
 use mill_base::Move;
 use mill_io::Shelf;
 use mill_job::Job;
 use mill_load::{File, LoadFault, Setup, job_from, moves_from, part_from, read_file, setup_from};
 use mill_part::Part;
-use mill_report_text::{Source, Sources};
 use std::alloc::Global;
 use std::thread::Threads;
 
 /// The texts of the three files, and what they read as.
 #[derive(Drop)]
-pub struct Loaded {
+pub(crate) struct Loaded {
     pub sources: Sources,
     pub setup: Setup,
     pub moves: Vec<Move>,
@@ -28,14 +30,14 @@ pub struct Loaded {
 
 /// The text of the job's file, and what it reads as.
 #[derive(Drop)]
-pub struct JobRead {
+pub(crate) struct JobRead {
     pub source: Source,
     pub job: Job,
 }
 
 /// The texts of the job's and of the part's file, and what they read as.
 #[derive(Drop)]
-pub struct SetupRead {
+pub(crate) struct SetupRead {
     pub job: Source,
     pub part: Source,
     pub setup: Setup,
@@ -43,7 +45,7 @@ pub struct SetupRead {
 
 /// Reads the job, the part and the program, in this order, and checks the part's top before the
 /// program. The first that fails ends it.
-pub fn load<R: Threads, S: Shelf>(
+pub(crate) fn load<R: Threads, S: Shelf>(
     rt: &R,
     alloc: Global,
     shelf: &mut S,
@@ -57,7 +59,8 @@ pub fn load<R: Threads, S: Shelf>(
         (record { job = job.now; part = part.now; program = program.now })) result }
     ensures ready { IfOk result IsReady }
     ensures of_three { IfErr result IsOfThree }
-    ensures failed { (names : AnyFile → List ℕ) → names JobFile ≡ job.now → names PartFile ≡ part.now → names ProgramFile ≡ program.now →
+    ensures failed { (names : AnyFile → List ℕ) →
+        names JobFile ≡ job.now → names PartFile ≡ part.now → names ProgramFile ≡ program.now →
         IfErr result (NamesFault names (S.shows shelf.new).log) }
     ensures store { OnlyLoads (S.shows shelf.old) (S.shows shelf.new) result }
 {
@@ -83,7 +86,8 @@ fn load_setup<R: Threads, S: Shelf>(
         AreHeld contents (S.shows shelf.old).log (S.shows shelf.new).log →
         ReadsSetup (setup_texts contents job.now part.now) result }
     ensures ready { IfOk result HoldsSetup }
-    ensures failed { (names : AnyFile → List ℕ) → names JobFile ≡ job.now → names PartFile ≡ part.now →
+    ensures failed { (names : AnyFile → List ℕ) →
+        names JobFile ≡ job.now → names PartFile ≡ part.now →
         IfErr result (NamesFault names (S.shows shelf.new).log) }
     ensures store { OnlyLoads (S.shows shelf.old) (S.shows shelf.new) result }
 {
@@ -151,7 +155,8 @@ fn job_with(alloc: Global, source: Source) -> Result<JobRead, LoadFault>
     requires { FitsJobFile source }
 
     // Whatever a store tells of the file.
-    ensures told { (told : Option (List ℕ)) → IfSome told (λ bytes. source ≡ bytes) → ReadsJob told result }
+    ensures told { (told : Option (List ℕ)) → IfSome told (λ bytes. source ≡ bytes)
+        → ReadsJob told result }
     ensures ready { IfOk result HoldsJob }
     ensures cause { CountsFault 0 0 result }
 {
@@ -188,7 +193,8 @@ fn load_part<R: Threads, S: Shelf>(
 fn part_with(alloc: Global, before: JobRead, source: Source) -> Result<SetupRead, LoadFault>
     requires ready { HoldsJob before }
     requires fits { Fits source }
-    ensures told { (told : Option (List ℕ)) → IfSome told (λ bytes. source ≡ bytes) → ReadsPart before told result }
+    ensures told { (told : Option (List ℕ)) → IfSome told (λ bytes. source ≡ bytes)
+        → ReadsPart before told result }
     ensures ready { IfOk result HoldsSetup }
     ensures cause { CountsFault 0 0 result }
 {
@@ -201,8 +207,9 @@ fn part_with(alloc: Global, before: JobRead, source: Source) -> Result<SetupRead
 /// The job with its part and both texts, if the part isn't over the job's top.
 fn joined(before: JobRead, source: Source, part: Part) -> Result<SetupRead, LoadFault>
     requires ready { HoldsJob before }
-    requires part_is { IsPartText before.job source part }
-    ensures told { (told : Option (List ℕ)) → IfSome told (λ bytes. source ≡ bytes) → ReadsPart before told result }
+    requires part_is { IsPartText before.job.fields source part }
+    ensures told { (told : Option (List ℕ)) → IfSome told (λ bytes. source ≡ bytes)
+        → ReadsPart before told result }
     ensures ready { IfOk result HoldsSetup }
     ensures cause { CountsFault 0 0 result }
 {
@@ -220,7 +227,8 @@ fn joined(before: JobRead, source: Source, part: Part) -> Result<SetupRead, Load
 fn with_program(alloc: Global, before: SetupRead, source: Source) -> Result<Loaded, LoadFault>
     requires ready { HoldsSetup before }
     requires fits { Fits source }
-    ensures told { (told : ToldTexts) → AreSetupTexts told.setup before → IfSome told.program (λ bytes. source ≡ bytes) → Loads told result }
+    ensures told { (told : ToldTexts) → AreSetupTexts told.setup before
+        → IfSome told.program (λ bytes. source ≡ bytes) → Loads told result }
     ensures ready { IfOk result IsReady }
     ensures cause { CountsFault 0 0 result }
 {

@@ -1,18 +1,18 @@
 //! All that the program does: the words, the files, and the document.
 ghost use Rattle.std.specs.Prelude.{◌≡◌, false, map, string_bytes};
+ghost use Rattle.mill_answer.specs.Calls.{BlamesReads, BlamesWrites, CanCount, call_of};
 ghost use Rattle.mill_io.specs.Readings.{AreHeld};
 ghost use Rattle.mill_io.specs.Views.{ReadsOnly};
 ghost use Rattle.mill_report_run.specs.Headline.{Completes, Headline, Untaken};
+ghost use Rattle.mill_report_run.specs.inner.Prints.{Serves};
 ghost use Rattle.mill_report_run.specs.Outcomes.{HasOutcome};
 ghost use Rattle.mill_report_run.specs.Words.{IsBounded, is_taken, request_of};
-ghost use Rattle.mill_report_run.specs.inner.Prints.{Serves};
-ghost use Rattle.mill_run.specs.Calls.{BlamesReads, BlamesWrites, CanCount, call_of};
 
 use crate::load::load;
 use crate::tell::{tell_fault, tell_refusal, tell_report};
 use crate::words::{Asked, read_words};
+use mill_answer::Status;
 use mill_io::{Shelf, Sink};
-use mill_load::Status;
 use mill_verify::one_verdict;
 use std::alloc::Global;
 use std::thread::Threads;
@@ -24,9 +24,9 @@ use std::thread::Threads;
 /// the clauses say it of any `contents`, which tell of each name what its file holds, or nothing.
 /// What the store tells of its own files holds that.
 ///
-/// The words don't have the program's name. What keeps it from a report is printed as a document too,
-/// and clap's text of help or of a mistake in the words as it is. The text goes to the sink whole, or the
-/// status is `WriteFault` and a prefix of it went there.
+/// The words don't have the program's name. What keeps it from a report is printed as a document
+/// too, and clap's text of help or of a mistake in the words as it is. The text goes to the sink
+/// whole, or the status is `WriteFault` and a prefix of it went there.
 pub fn run<R: Threads + Sync, S: Shelf, O: Sink>(
     rt: &R,
     alloc: Global,
@@ -36,8 +36,8 @@ pub fn run<R: Threads + Sync, S: Shelf, O: Sink>(
 ) -> Status
     requires { CanCount (S.shows shelf.old) (O.shows out.old) }
 
-    // It ends as a failed write exactly where a write of the sink has failed, and as a failed read exactly
-    // where a read of the store has failed and the sink has not.
+    // It ends as a failed write exactly where a write of the sink has failed, and as a failed read
+    // exactly where a read of the store has failed and the sink has not.
     ensures write { BlamesWrites (call_of result
         (S.shows shelf.old) (S.shows shelf.new) (O.shows out.old) (O.shows out.new)) }
     ensures read { BlamesReads (call_of result
@@ -67,8 +67,8 @@ pub fn run<R: Threads + Sync, S: Shelf, O: Sink>(
     ensures headline { Headline (map string_bytes words.now) (call_of result
         (S.shows shelf.old) (S.shows shelf.new) (O.shows out.old) (O.shows out.new)) }
 {
-    // A law without code: there is at most one verdict on a program. The last part of the headline rests
-    // on it.
+    // A law without code: there is at most one verdict on a program. The last part of the headline
+    // rests on it.
     one_verdict();
     work(rt, alloc, words, shelf, out)
 }

@@ -1,20 +1,22 @@
 //! What is printed, and the status that it ends with.
 ghost use Rattle.std.specs.Prelude.{◌-◌, ◌^◌, ◌<◌, ◌≤◌};
-ghost use Rattle.mill_load.specs.Statuses.{status_code};
+ghost use Rattle.mill_answer.specs.Statuses.{status_code};
 ghost use Rattle.mill_report_run.specs.inner.Loads.{IsOfThree, IsReady};
 ghost use Rattle.mill_report_run.specs.inner.Prints.{PrintsFault, PrintsOutcome, PrintsShort, TriesReport, refusal_outcome};
 
+use crate::fault::{fault_report, memory_report, read_fault_report};
 use crate::load::Loaded;
+use crate::whole::report;
+use mill_answer::{Status, tell};
 use mill_base::WantOfMemory;
 use mill_command::Refusal;
 use mill_io::Sink;
-use mill_load::{LoadFault, Status, tell};
-use mill_report_text::{fault_report, memory_report, read_fault_report, report};
+use mill_load::{LoadFault, Setup};
 use std::alloc::Global;
 use std::thread::Threads;
 
 /// Prints the report on what was read.
-pub fn tell_report<R: Threads + Sync, O: Sink>(
+pub(crate) fn tell_report<R: Threads + Sync, O: Sink>(
     rt: &R,
     alloc: Global,
     loaded: Loaded,
@@ -29,17 +31,17 @@ pub fn tell_report<R: Threads + Sync, O: Sink>(
 {
     let Loaded {
         sources,
-        setup,
+        setup: Setup { job, part },
         moves,
     } = loaded;
-    match report(rt, alloc, sources, &setup.job, &setup.part, &moves, workers) {
+    match report(rt, alloc, sources, &job, part, &moves, workers) {
         Ok(made) => tell(out, &made.text, made.status),
         Err(WantOfMemory) => tell_memory(out),
     }
 }
 
 /// Prints what kept the call from a report. That a file couldn't be read takes no memory to tell.
-pub fn tell_fault<O: Sink>(alloc: Global, fault: &LoadFault, out: &mut O) -> Status
+pub(crate) fn tell_fault<O: Sink>(alloc: Global, fault: &LoadFault, out: &mut O) -> Status
     requires of_three { IsOfThree fault.now }
     requires prints { (O.shows out.old).faults < 2 ^ 64 - 1 }
     ensures { PrintsFault fault.now (status_code result) (O.shows out.old) (O.shows out.new) }
@@ -59,7 +61,7 @@ pub fn tell_fault<O: Sink>(alloc: Global, fault: &LoadFault, out: &mut O) -> Sta
 }
 
 /// Prints what clap says of words that it doesn't take, or that there was no memory for them.
-pub fn tell_refusal<O: Sink>(refusal: Refusal, out: &mut O) -> Status
+pub(crate) fn tell_refusal<O: Sink>(refusal: Refusal, out: &mut O) -> Status
     requires { (O.shows out.old).faults < 2 ^ 64 - 1 }
     ensures { PrintsOutcome (refusal_outcome refusal) (status_code result)
         (O.shows out.old) (O.shows out.new) }
@@ -72,7 +74,7 @@ pub fn tell_refusal<O: Sink>(refusal: Refusal, out: &mut O) -> Status
 }
 
 /// Prints that memory was short, which takes none.
-pub fn tell_memory<O: Sink>(out: &mut O) -> Status
+pub(crate) fn tell_memory<O: Sink>(out: &mut O) -> Status
     requires { (O.shows out.old).faults < 2 ^ 64 - 1 }
     ensures { PrintsShort (status_code result) (O.shows out.old) (O.shows out.new) }
 {

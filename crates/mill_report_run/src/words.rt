@@ -19,10 +19,10 @@ Exit status; a document tells it too:
   6  a file could not be read
   7  the document could not be printed";
 
-/// What the words ask for: the names of the three files, as the words have them, and how many threads
-/// share the work, from 1 to 64.
+/// What the words ask for: the names of the three files, as the words have them, and how many
+/// threads share the work, from 1 to 64.
 #[derive(Clone, Copy, Debug)]
-pub struct Asked<'a> {
+pub(crate) struct Asked<'a> {
     pub job: &'a str,
     pub part: &'a str,
     pub program: &'a str,
@@ -34,11 +34,12 @@ pub struct Asked<'a> {
 /// # Errors
 /// `Help` where clap answers the words with its help or its version, `NotTaken` where it doesn't
 /// take them, and `WantOfMemory`.
-pub fn read_words<'a>(alloc: Global, words: &'a [String]) -> Result<Asked<'a>, Refusal>
+pub(crate) fn read_words<'a>(alloc: Global, words: &'a [String]) -> Result<Asked<'a>, Refusal>
     ensures reads { ReadsWords (map string_bytes words.now) result }
 
     // Words that clap takes name each of the three files.
-    ensures whole { is_some (request (map string_bytes words.now)) ≡ is_taken (map string_bytes words.now) }
+    ensures whole { is_some (request (map string_bytes words.now))
+        ≡ is_taken (map string_bytes words.now) }
     ensures bounded { IfOk result (λ asked. IsBounded (request_of asked)) }
 {
     let matches = match parse(alloc, words) {
@@ -55,7 +56,8 @@ pub fn read_words<'a>(alloc: Global, words: &'a [String]) -> Result<Asked<'a>, R
 /// What clap makes of the words.
 fn parse<'a>(alloc: Global, words: &'a [String]) -> Result<ArgMatches<'a>, Error>
     ensures kinds { FailsBy (faults (map string_bytes words.now)) result }
-    ensures matches { IfOk result (λ m. rows_of (found_of m) ≡ matches_of taken_words (map string_bytes words.now)) }
+    ensures matches { IfOk result (λ m. rows_of (found_of m)
+        ≡ matches_of taken_words (map string_bytes words.now)) }
 {
     command(alloc)?.try_get_matches_from(words)
 }
@@ -73,7 +75,8 @@ fn asked_of<'a>(matches: &ArgMatches<'a>) -> Option<Asked<'a>>
 }
 
 /// The words that the program takes, ready to be built by a parse.
-// The words are added by twos, since each that may fail costs a proof that all before it are dropped.
+// The words are added by twos, since each that may fail costs a proof that all before it are
+// dropped.
 fn command<'a>(alloc: Global) -> Result<Command<'a>, AllocError>
     ensures { IfOk result (Is taken_words) }
 {

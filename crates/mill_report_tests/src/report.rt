@@ -3,21 +3,19 @@ ghost use Rattle.mill_base.specs.declared.limits.TheConstants.{MAX_MOVES};
 ghost use Rattle.mill_base.specs.Motion.{Follow};
 ghost use Rattle.mill_base.specs.Points.{point_at};
 ghost use Rattle.mill_base.specs.Ranges.{MovesInRange};
-ghost use Rattle.mill_job.specs.Jobs.{IsJob};
 
 use crate::samples::{block_job, down, edge, plate, up};
 use mill_base::{Holder, Kind, Move};
 use mill_crew::Threaded;
 use mill_job::Job;
-use mill_part::{Part, SortedPart};
+use mill_part::SortedPart;
 use mill_report::all_findings;
 use mill_verify::verify;
 use std::alloc::Global;
 use std::test::Fail;
 
 /// The failing moves of a program.
-fn failing(alloc: Global, job: &Job, part: &Part, moves: &[Move]) -> Result<String, Fail>
-    requires job_ok { IsJob job.now }
+fn failing(alloc: Global, job: &Job, part: &SortedPart, moves: &[Move]) -> Result<String, Fail>
     requires moves_ok { MovesInRange moves.now }
     requires few { length moves.now ≤ MAX_MOVES }
 {
@@ -27,8 +25,7 @@ fn failing(alloc: Global, job: &Job, part: &Part, moves: &[Move]) -> Result<Stri
 }
 
 /// The columns that it leaves too high.
-fn left(alloc: Global, job: &Job, part: &Part, moves: &[Move]) -> Result<String, Fail>
-    requires job_ok { IsJob job.now }
+fn left(alloc: Global, job: &Job, part: &SortedPart, moves: &[Move]) -> Result<String, Fail>
     requires moves_ok { MovesInRange moves.now }
     requires few { length moves.now ≤ MAX_MOVES }
 {
@@ -225,12 +222,11 @@ fn begins_with_the_verdict(rt: HostRuntime) -> Result<(), Fail> {
     let alloc = rt.alloc();
     let job = block_job(0, None);
     let part = plate(alloc)?;
-    let sorted = SortedPart::new(alloc, &part)?;
     let crew = Threaded {
         rt: &rt,
         workers: 2,
     };
-    let verdict = verify(&crew, alloc, &job, &part, sorted.cells(), &twice());
+    let verdict = verify(&crew, alloc, &job, &part, &twice());
     let told = format!(in alloc; "{verdict:?}")?;
     assert_eq!(rt; told.as_str(), TWICE_VERDICT);
     Ok(())

@@ -7,91 +7,72 @@ ghost use Rattle.mill_base.specs.Covers.{IsUnder};
 ghost use Rattle.mill_base.specs.Ranges.{MoveInRange};
 ghost use Rattle.mill_base.specs.Tools.{IsHolder};
 ghost use Rattle.mill_job.specs.Columns.{home};
-ghost use Rattle.mill_job.specs.Jobs.{IsJob};
 
-use mill_base::{Box2, Cutter, Holder, Kind, Move, Pt3, Tri, Unit, WantOfMemory};
+use mill_base::{Box2, Cutter, Holder, Kind, Move, Pt3, Unit};
 use mill_decimal::Snap;
-use mill_job::{Job, Levels, Place};
-use mill_part::Part;
+use mill_job::{Job, JobFields, Levels, Place};
+use mill_part::SortedPart;
+use mill_tables::part_under;
 use std::alloc::Global;
+use std::test::Fail;
 
 /// A block of stock from 0 to 300 over a square of 200, and nine columns in it, 100 apart. The cutter is so narrow
 /// that it cuts one column at a time. A feed may cut this deep and no deeper; 0 is no limit.
 pub(crate) fn block_job(max_cut: u8, holder: Option<Holder>) -> Job
     requires holder_ok { IfSome holder IsHolder }
     requires wider { IfSome holder (λ around. pos 50 <ℤ around.radius) }
-    ensures job { IsJob result }
-    ensures top { result.top ≡ pos 300 }
-    ensures start { home result ≡ point_at (pos 100) (pos 100) (pos 400) }
+    ensures top { result.fields.top ≡ pos 300 }
+    ensures start { home result.fields ≡ point_at (pos 100) (pos 100) (pos 400) }
 {
     Job {
-        unit: Unit::Hundredth,
-        cutter: Cutter::Flat { radius: 50 },
-        floor: 0,
-        top: 300,
-        clear: 400,
-        area: Box2 {
-            x0: 0,
-            y0: 0,
-            x1: 200,
-            y1: 200,
+        fields: JobFields {
+            unit: Unit::Hundredth,
+            cutter: Cutter::Flat { radius: 50 },
+            floor: 0,
+            top: 300,
+            clear: 400,
+            area: Box2 {
+                x0: 0,
+                y0: 0,
+                x1: 200,
+                y1: 200,
+            },
+            home: Place { x: 100, y: 100 },
+            pitch: 100,
+            sample: 50,
+            allowance: 0,
+            band: 0,
+            lift: 0,
+            raster: 100,
+            rough_raster: 100,
+            layer: 0,
+            rough_stock: 0,
+            levels: Levels::NONE,
+            snap: Snap::Nearest,
+            max_cut: i32::from(max_cut),
+            holder,
+            path_tol: None,
         },
-        home: Place { x: 100, y: 100 },
-        pitch: 100,
-        sample: 50,
-        allowance: 0,
-        band: 0,
-        lift: 0,
-        raster: 100,
-        rough_raster: 100,
-        layer: 0,
-        rough_stock: 0,
-        levels: Levels::NONE,
-        snap: Snap::Nearest,
-        max_cut: i32::from(max_cut),
-        holder,
-        path_tol: None,
     }
-}
-
-fn corner(x: i32, y: i32) -> Pt3
-    requires x_ok { Within MAX_COORDINATE x }
-    requires y_ok { Within MAX_COORDINATE y }
-    ensures { result ≡ point_at x y (pos 200) }
-{
-    Pt3 { x, y, z: 200 }
 }
 
 /// A plate at the height 200 over the square, of two triangles: the first on the side of y = 0, and the second on
 /// that of x = 0.
-pub(crate) fn plate(alloc: Global) -> Result<Part, WantOfMemory>
+pub(crate) fn plate(alloc: Global) -> Result<SortedPart, Fail>
     ensures { IfOk result (λ part. IsUnder part (pos 300)) }
 {
-    let mut tris = Vec::new(alloc);
-    tris.push(Tri {
-        a: corner(0, 0),
-        b: corner(200, 0),
-        c: corner(200, 200),
-    })?;
-    tris.push(Tri {
-        a: corner(0, 0),
-        b: corner(200, 200),
-        c: corner(0, 200),
-    })?;
-    Ok(Part::new(tris))
+    part_under(
+        alloc,
+        300,
+        "0 0 200, 200 0 200, 200 200 200; 0 0 200, 200 200 200, 0 200 200",
+    )
 }
 
 /// One triangle at the height 200 whose edge lies at x = 160, along the whole square.
-pub(crate) fn edge(alloc: Global) -> Result<Part, WantOfMemory>
+pub(crate) fn edge(alloc: Global) -> Result<SortedPart, Fail>
     ensures { IfOk result (λ part. IsUnder part (pos 300)) }
 {
-    let mut tris = Vec::new(alloc);
-    tris.push(Tri {
-        a: corner(160, 0),
-        b: corner(160, 200),
-        c: corner(200, 200),
-    })?;
-    Ok(Part::new(tris))
+    part_under(alloc, 300, "160 0 200, 160 200 200, 200 200 200")
 }
 
 /// A move straight down over this place, from 400 to a height.

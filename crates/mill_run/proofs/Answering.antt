@@ -1,26 +1,18 @@
 -- Where the files are told, what was read decides the answer.
-use Rattle.std.proofs.Common.{◌≡◌, ◌⊎◌, ℕ, zero, suc, List, [], ◌∷◌, length, Option, Result, Ok, Err, refl, sym, ap, subst, ◌∙◌, inl, inr, arith}
-use Rattle.std.specs.Prelude.{◌<◌, ◌≤◌, ℤ, ◌≤ℤ◌, ◌<ℤ◌, All, IsSome}
-use Rattle.std.proofs.lemmas.Int.{ints}
+use Rattle.std.proofs.Common.{◌≡◌, ◌⊎◌, ℕ, zero, suc, List, [], ◌∷◌, length, Option, Ok, Err, refl, sym, ap, subst, ◌∙◌, inl, inr, arith}
+use Rattle.std.specs.Prelude.{◌<◌, ℤ, All, IsSome}
 use Rattle.std.proofs.lemmas.List.Elements.{All-get_or, All-head, All-tail}
 use Rattle.mill_base.specs.declared.points.Tri.{Tri}
 use Rattle.mill_base.specs.declared.motion.Move.{Move}
 use Rattle.mill_base.specs.declared.unit.Unit.{Unit as LengthUnit}
-use Rattle.mill_base.specs.Covers.{IsUnder}
-use Rattle.mill_part.specs.Tops.{IsTop, HasCornerAt}
-use Rattle.mill_stl.specs.Parts.{Part}
-use Rattle.mill_stl.specs.declared.fault.StlFault.{StlFault}
 use Rattle.mill_block.specs.declared.fault.NgcFault.{NgcFault}
-use Rattle.mill_job.specs.declared.job.Job.{Job}
+use Rattle.mill_job.specs.declared.fields.JobFields.{JobFields}
 use Rattle.mill_job.specs.declared.fault.JobFault.{JobFault}
-use Rattle.mill_job.proofs.OneAnswer.{one_answer}
-use Rattle.mill_list.specs.declared.step.Step.{Step}
-use Rattle.mill_list.proofs.OneList.{one_list}
+use Rattle.mill_job.specs.declared.step.Step.{Step}
+use Rattle.mill_job.proofs.OneList.{one_list}
 use Rattle.mill_verify.specs.Files.{File as CutFile}
 use Rattle.mill_verify.specs.Lists.{IsListVerdict}
-use Rattle.mill_verify.specs.Verdicts.{IsVerdict}
 use Rattle.mill_verify.specs.declared.list.ListVerdict.{ListVerdict}
-use Rattle.mill_verify.specs.declared.verdict.Verdict.{Verdict}
 use Rattle.mill_plan.specs.Plans.{done, too_many_nodes, too_many_moves, uncut, held}
 use Rattle.mill_command.specs.Requests.{verify, plan, drop, level, stock, rest, sample}
 use Rattle.mill_load.specs.declared.file.File.TheVariants.{Job as JobFile, Part as PartFile, Program as ProgramFile, List as ListFile, StepProgram}
@@ -28,141 +20,21 @@ use Rattle.mill_load.specs.declared.load.Unfit.{Unfit}
 use Rattle.mill_load.specs.declared.load.Unfit.TheVariants.{TooLong, JobRefused, PartRefused, ListRefused, ProgramRefused, PartTop}
 use Rattle.mill_load.specs.declared.place.Coordinate.{Coordinate}
 use Rattle.mill_load.specs.declared.place.Coordinate.TheVariants.{X, Y, Z}
-use Rattle.mill_job.specs.declared.job.Place.{Place}
+use Rattle.mill_job.specs.declared.fields.Place.{Place}
 use Rattle.mill_decimal.specs.declared.fault.DecFault.{DecFault}
 use Rattle.mill_run.specs.Answers.{Answer, refused_word, unfit, judged, planned, dropped, leveled, stocked, judged_files, sampled, answer_status, IsAnswer}
 use Rattle.mill_load.specs.Places.{ReadsPlace, RefusesWord, ReadsHeight, RefusesZ}
 use Rattle.mill_run.specs.Drop.{RefusesPlace}
 use Rattle.mill_run.specs.Level.{RefusesHeight, outlines, too_many_nodes as too_fine}
 use Rattle.mill_run.specs.Rest.{RestTexts, rest_texts, AreRestTold, IsListText, IsRefusedList, ReadsList, step_at, ReadsStep, ReadsSteps, ReadsRest, LongList, RefusesList, ReadsToStep, LongStep, RefusesStep, IsUnfitRest, JudgesFiles, list_status}
-use Rattle.mill_load.specs.Setup.{SetupTexts, setup_texts, AreSetupTold, IsTooLong, IsTooLongJob, IsJobText, IsRefusedJob, ReadsJob, IsPartText, IsRefusedPart, ReadsPart, ReadsSetup, LongPart, RefusesPart, HighPart, IsUnfit, IsUnfitWith}
+use Rattle.mill_load.specs.Setup.{SetupTexts, setup_texts, AreSetupTold, IsTooLong, IsTooLongJob, IsJobText, IsRefusedJob, ReadsJob, ReadsPart, ReadsSetup, IsUnfit, IsUnfitWith}
 use Rattle.mill_run.specs.Stock.{StockTexts, stock_texts, AreStockTold, ReadsStockJob, ReadsStock, LongStockProgram, RefusesStockProgram, IsUnfitStock, drawn, too_many_triangles}
-use Rattle.mill_run.specs.Verify.{Texts, texts_of, AreTold, ReadsProgram, Reads, LongProgram, RefusesProgram, IsUnfitProgram, Judges, verdict_status}
+use Rattle.mill_answer.specs.Verify.{texts_of, AreTold, Reads, Files}
 use Rattle.mill_load.specs.Programs.{IsProgramText, IsRefusedProgram}
-use Rattle.mill_run.specs.Words.{Files, PlanFiles, DropWords, LevelWords, StockFiles, RestFiles}
-use Rattle.mill_run.proofs.Told.{told_both}
-
-pub ok_is : {A E : Type 0} (a b : A) → (let r : Result A E = Ok a in r) ≡ Ok b → a ≡ b
-ok_is a b e = cc
-
-pub ok_err : {A E : Type 0} (a : A) (f : E) → (let r : Result A E = Ok a in r) ≡ Err f → ⊥
-ok_err a f e = cc
-
-pub too_long : (a b : ℕ) → a < b → b ≤ a → ⊥
-too_long a b h k = omega (h, k, arith)
-
--- ---- one text reads as one thing
-
-pub job_text : (text : List ℕ) (a b : Job) → IsJobText text a → IsJobText text b → a ≡ b
-job_text text a b r s = ok_is a b (one_answer text (Ok a) (Ok b) r.reads s.reads)
-
-pub no_job_text : (text : List ℕ) (job : Job) (fault : JobFault) → IsJobText text job → IsRefusedJob text fault → ⊥
-no_job_text text job fault r refused = ok_err job fault (one_answer text (Ok job) (Err fault) r.reads refused.refused)
-
-pub part_text : (job : Job) (text : List ℕ) (a b : List Tri) → IsPartText job text a → IsPartText job text b → a ≡ b
-part_text job text a b r s =
-    ap (λ (p : Part). p.tris) (ok_is (record { tris = a; rounded = r.rounded }) (record { tris = b; rounded = s.rounded }) (sym r.reads ∙ s.reads))
-
-pub no_part_text : (job : Job) (text : List ℕ) (part : List Tri) (fault : StlFault) → IsPartText job text part → IsRefusedPart job text fault → ⊥
-no_part_text job text part fault r refused = ok_err (record { tris = part; rounded = r.rounded }) fault (sym r.reads ∙ refused.refused)
-
-pub program_text : (job : Job) (text : List ℕ) (a b : List Move) → IsProgramText job text a → IsProgramText job text b → a ≡ b
-program_text job text a b r s = ok_is a b (sym r.reads ∙ s.reads)
-
-pub no_program_text : (job : Job) (text : List ℕ) (moves : List Move) (fault : NgcFault) → IsProgramText job text moves → IsRefusedProgram job text fault → ⊥
-no_program_text job text moves fault r refused = ok_err moves fault (sym r.reads ∙ refused.refused)
-
--- ---- so does a file that is told
-
-pub same_job : (texts : SetupTexts) (a b : Job) → IsSome texts.job → ReadsJob texts a → ReadsJob texts b → a ≡ b
-same_job texts a b told r s =
-    let both = told_both (λ text. IsJobText text a) (λ text. IsJobText text b) texts.job told r s in
-    job_text both.0 a b both.1 both.2
-
-pub same_part : (texts : SetupTexts) (job : Job) (a b : List Tri) → IsSome texts.part → ReadsPart texts job a → ReadsPart texts job b → a ≡ b
-same_part texts job a b told r s =
-    let both = told_both (λ text. IsPartText job text a) (λ text. IsPartText job text b) texts.part told r s in
-    part_text job both.0 a b both.1 both.2
-
-pub same_moves : (texts : Texts) (job : Job) (a b : List Move) → IsSome texts.program → ReadsProgram texts job a → ReadsProgram texts job b → a ≡ b
-same_moves texts job a b told r s =
-    let both = told_both (λ text. IsProgramText job text a) (λ text. IsProgramText job text b) texts.program told r s in
-    program_text job both.0 a b both.1 both.2
-
--- ---- files that are told and read are not unfit
-
-corner_under : (tri : Tri) (z top : ℤ) → (tri.a.z ≤ℤ top) × (tri.b.z ≤ℤ top) × (tri.c.z ≤ℤ top) → HasCornerAt tri z → z ≤ℤ top
-corner_under tri z top u (inl e) = subst (λ (h : ℤ). h ≤ℤ top) e u.0
-corner_under tri z top u (inr (inl e)) = subst (λ (h : ℤ). h ≤ℤ top) e u.1
-corner_under tri z top u (inr (inr e)) = subst (λ (h : ℤ). h ≤ℤ top) e u.2
-
--- a part that isn't over the top has no corner over it
-not_high : (part : List Tri) (top height limit : ℤ) → IsUnder part top → IsTop part height → limit ≡ top → limit <ℤ height → ⊥
-not_high part top height limit under is_top same over =
-    below height top (corner_under is_top.tri height top (under is_top.tri is_top.member) is_top.corner) (subst (λ (t : ℤ). t <ℤ height) same over)
-  where
-    below : (h t : ℤ) → h ≤ℤ t → t <ℤ h → ⊥
-    below h t le lt = omega (le, lt, arith, ints)
-
-fit_long_part : (texts : SetupTexts) (job : Job) (part : List Tri) → AreSetupTold texts → ReadsSetup texts job part → LongPart texts → ⊥
-fit_long_part texts job part told r h =
-    let both = told_both IsTooLong (λ text. IsPartText job text part) texts.part told.part h.long r.part_is in
-    too_long _ _ both.1 both.2.fits
-
-fit_part : (texts : SetupTexts) (job : Job) (part : List Tri) (fault : StlFault) → AreSetupTold texts → ReadsSetup texts job part → RefusesPart texts fault → ⊥
-fit_part texts job part fault told r h =
-    let same : h.job ≡ job = same_job texts h.job job told.job h.job_is r.job_is in
-    let both = told_both (λ text. IsRefusedPart h.job text fault) (λ text. IsPartText job text part) texts.part told.part h.refused r.part_is in
-    no_part_text job both.0 part fault both.2 (subst (λ (j : Job). IsRefusedPart j both.0 fault) same both.1)
-
-fit_top : (texts : SetupTexts) (job : Job) (part : List Tri) (height top : ℤ) (unit : LengthUnit) → AreSetupTold texts → ReadsSetup texts job part → HighPart texts height top unit → ⊥
-fit_top texts job part height top unit told r h =
-    let same : h.job ≡ job = same_job texts h.job job told.job h.job_is r.job_is in
-    let same_p : h.part ≡ part = same_part texts job h.part part told.part (subst (λ (j : Job). ReadsPart texts j h.part) same h.part_is) r.part_is in
-    not_high part job.top height top r.under (subst (λ (q : List Tri). IsTop q height) same_p h.greatest) (h.limit ∙ ap (λ (j : Job). j.top) same) h.over
-
-pub fit_setup : (texts : SetupTexts) (job : Job) (part : List Tri) (u : Unfit) → AreSetupTold texts → ReadsSetup texts job part → IsUnfit texts u → ⊥
-fit_setup texts job part (TooLong JobFile) told r h =
-    let both = told_both IsTooLongJob (λ text. IsJobText text job) texts.job told.job h r.job_is in
-    too_long _ _ both.1 both.2.fits
-fit_setup texts job part (TooLong PartFile) told r h = fit_long_part texts job part told r h
-fit_setup texts job part (TooLong ProgramFile) told r h = h
-fit_setup texts job part (TooLong ListFile) told r h = h
-fit_setup texts job part (TooLong (StepProgram k)) told r h = h
-fit_setup texts job part (JobRefused fault) told r h =
-    let both = told_both (λ text. IsRefusedJob text fault) (λ text. IsJobText text job) texts.job told.job h r.job_is in
-    no_job_text both.0 job fault both.2 both.1
-fit_setup texts job part (PartRefused fault) told r h = fit_part texts job part fault told r h
-fit_setup texts job part (ListRefused fault) told r h = h
-fit_setup texts job part (ProgramRefused file fault) told r h = h
-fit_setup texts job part (PartTop height top unit) told r h = fit_top texts job part height top unit told r h
-
-fit_long_program : (texts : Texts) (job : Job) (part : List Tri) (moves : List Move) → AreTold texts → Reads texts job part moves → LongProgram texts → ⊥
-fit_long_program texts job part moves told r h =
-    let both = told_both IsTooLong (λ text. IsProgramText job text moves) texts.program told.program h.long r.moves_are in
-    too_long _ _ both.1 both.2.fits
-
-fit_moves : (texts : Texts) (job : Job) (part : List Tri) (moves : List Move) (fault : NgcFault) → AreTold texts → Reads texts job part moves → RefusesProgram texts fault → ⊥
-fit_moves texts job part moves fault told r h =
-    let same : h.job ≡ job = same_job texts.setup h.job job told.setup.job h.setup_is.job_is r.setup_is.job_is in
-    let both = told_both (λ text. IsRefusedProgram h.job text fault) (λ text. IsProgramText job text moves) texts.program told.program h.refused r.moves_are in
-    no_program_text job both.0 moves fault both.2 (subst (λ (j : Job). IsRefusedProgram j both.0 fault) same both.1)
-
-pub fit_program : (texts : Texts) (job : Job) (part : List Tri) (moves : List Move) (u : Unfit) → AreTold texts → Reads texts job part moves → IsUnfitProgram texts u → ⊥
-fit_program texts job part moves (TooLong JobFile) told r h = fit_setup texts.setup job part (TooLong JobFile) told.setup r.setup_is h
-fit_program texts job part moves (TooLong PartFile) told r h = fit_long_part texts.setup job part told.setup r.setup_is h
-fit_program texts job part moves (TooLong ProgramFile) told r h = fit_long_program texts job part moves told r h
-fit_program texts job part moves (TooLong ListFile) told r h = h
-fit_program texts job part moves (TooLong (StepProgram k)) told r h = h
-fit_program texts job part moves (JobRefused fault) told r h = fit_setup texts.setup job part (JobRefused fault) told.setup r.setup_is h
-fit_program texts job part moves (PartRefused fault) told r h = fit_part texts.setup job part fault told.setup r.setup_is h
-fit_program texts job part moves (ListRefused fault) told r h = h
-fit_program texts job part moves (ProgramRefused JobFile fault) told r h = h
-fit_program texts job part moves (ProgramRefused PartFile fault) told r h = h
-fit_program texts job part moves (ProgramRefused ProgramFile fault) told r h = fit_moves texts job part moves fault told r h
-fit_program texts job part moves (ProgramRefused ListFile fault) told r h = h
-fit_program texts job part moves (ProgramRefused (StepProgram k) fault) told r h = h
-fit_program texts job part moves (PartTop height top unit) told r h = fit_top texts.setup job part height top unit told.setup r.setup_is h
+use Rattle.mill_run.specs.Words.{PlanFiles, DropWords, LevelWords, StockFiles, RestFiles}
+use Rattle.mill_answer.proofs.Told.{told_both}
+use Rattle.mill_answer.proofs.Answering.{is_judged as judged_files_of, ok_is, ok_err, too_long, job_text, no_job_text, program_text, no_program_text, same_job, same_part, fit_setup, HasVerdict}
+use Rattle.mill_answer.specs.Judgments.{unfit as unfit_files, judged as judged_program}
 
 -- what is unfit where words are read between the files is so anyway
 pub unfit_of : (ReadsWords : Type 0) (texts : SetupTexts) (u : Unfit) → IsUnfitWith ReadsWords texts u → IsUnfit texts u
@@ -179,29 +51,13 @@ unfit_of W texts (PartTop height top unit) h = h.1
 
 -- ---- `verify`
 
--- what was judged is what was read
-pub judged_is : (texts : Texts) (job j : Job) (part p : List Tri) (moves m : List Move) (v : Verdict) → AreTold texts → Reads texts job part moves → Judges texts j p m v
-    → IsVerdict job part moves v
-judged_is texts job j part p moves m v told r h =
-    let e : j ≡ job = same_job texts.setup j job told.setup.job h.all_read.setup_is.job_is r.setup_is.job_is in
-    let f : p ≡ part = same_part texts.setup job p part told.setup.part (subst (λ (x : Job). ReadsPart texts.setup x p) e h.all_read.setup_is.part_is) r.setup_is.part_is in
-    let g : m ≡ moves = same_moves texts job m moves told.program (subst (λ (x : Job). ReadsProgram texts x m) e h.all_read.moves_are) r.moves_are in
-    subst (λ (x : List Move). IsVerdict job part x v) g (subst (λ (x : List Tri). IsVerdict job x m v) f (subst (λ (x : Job). IsVerdict x p m v) e h.is))
-
--- the answer is the status of a verdict on what was read
-pub record HasVerdict (job : Job) (part : List Tri) (moves : List Move) (status : ℕ) : Type 0 where
-  pub verdict : Verdict
-  pub is : IsVerdict job part moves verdict
-  pub same : status ≡ verdict_status verdict
-
 -- files that are told and read are judged, and nothing is refused
-pub is_judged : (contents : List ℕ → Option (List ℕ)) (files : Files) (workers : ℕ) (job : Job) (part : List Tri) (moves : List Move) (a : Answer)
+pub is_judged : (contents : List ℕ → Option (List ℕ)) (files : Files) (workers : ℕ) (job : JobFields) (part : List Tri) (moves : List Move) (a : Answer)
     → AreTold (texts_of contents files) → Reads (texts_of contents files) job part moves → IsAnswer contents (verify files.job files.part files.program workers) a
     → HasVerdict job part moves (answer_status a)
 is_judged contents files workers job part moves (refused_word coordinate fault) told r h = absurd h
-is_judged contents files workers job part moves (unfit u) told r h = absurd (fit_program (texts_of contents files) job part moves u told r h)
-is_judged contents files workers job part moves (judged j p m v) told r h =
-    record { verdict = v; is = judged_is (texts_of contents files) job j part p moves m v told r h; same = refl }
+is_judged contents files workers job part moves (unfit u) told r h = judged_files_of (texts_of contents files) job part moves (unfit_files u) told r h
+is_judged contents files workers job part moves (judged j p m v) told r h = judged_files_of (texts_of contents files) job part moves (judged_program j p m v) told r h
 is_judged contents files workers job part moves (planned j q name answer) told r h = absurd h
 is_judged contents files workers job part moves (dropped unit height) told r h = absurd h
 is_judged contents files workers job part moves (leveled unit answer) told r h = absurd h
@@ -212,7 +68,7 @@ is_judged contents files workers job part moves (sampled n answer) told r h = ab
 -- ---- `plan`
 
 -- files that are told and read have a plan, or there is none, and nothing is refused
-pub is_planned : (contents : List ℕ → Option (List ℕ)) (files : PlanFiles) (workers : ℕ) (job : Job) (part : List Tri) (a : Answer)
+pub is_planned : (contents : List ℕ → Option (List ℕ)) (files : PlanFiles) (workers : ℕ) (job : JobFields) (part : List Tri) (a : Answer)
     → AreSetupTold (setup_texts contents files.job files.part) → ReadsSetup (setup_texts contents files.job files.part) job part
     → IsAnswer contents (plan files.job files.part files.out workers) a → (answer_status a ≡ 0) ⊎ ((answer_status a ≡ 8) ⊎ (answer_status a ≡ 9))
 is_planned contents files workers job part (refused_word coordinate fault) told r h = absurd h
@@ -236,15 +92,15 @@ reads_word unit x y place X fault r e = ok_err place.x fault (sym r.x_is ∙ e)
 reads_word unit x y place Y fault r e = ok_err place.y fault (sym r.y_is ∙ e.2)
 reads_word unit x y place Z fault r e = e
 
-place_read : (contents : List ℕ → Option (List ℕ)) (given : DropWords) (place : Place) (job : Job) (coordinate : Coordinate) (fault : DecFault) → ReadsPlace job.unit given.x given.y place
+place_read : (contents : List ℕ → Option (List ℕ)) (given : DropWords) (place : Place) (job : JobFields) (coordinate : Coordinate) (fault : DecFault) → ReadsPlace job.unit given.x given.y place
     → IsSome (contents given.job) → ReadsJob (setup_texts contents given.job given.part) job
     → RefusesPlace (setup_texts contents given.job given.part) given.x given.y coordinate fault → ⊥
 place_read contents given place job coordinate fault reads told r h =
     let same : h.job ≡ job = same_job (setup_texts contents given.job given.part) h.job job told h.job_is r in
-    reads_word job.unit given.x given.y place coordinate fault reads (subst (λ (j : Job). RefusesWord j.unit given.x given.y coordinate fault) same h.refused)
+    reads_word job.unit given.x given.y place coordinate fault reads (subst (λ (j : JobFields). RefusesWord j.unit given.x given.y coordinate fault) same h.refused)
 
 -- words that read, and files that are told and read, give a drop height, and nothing is refused
-pub is_dropped : (contents : List ℕ → Option (List ℕ)) (given : DropWords) (place : Place) (job : Job) (part : List Tri) (a : Answer) → ReadsPlace job.unit given.x given.y place
+pub is_dropped : (contents : List ℕ → Option (List ℕ)) (given : DropWords) (place : Place) (job : JobFields) (part : List Tri) (a : Answer) → ReadsPlace job.unit given.x given.y place
     → AreSetupTold (setup_texts contents given.job given.part) → ReadsSetup (setup_texts contents given.job given.part) job part
     → IsAnswer contents (drop given.job given.part given.x given.y) a → answer_status a ≡ 0
 is_dropped contents given place job part (refused_word coordinate fault) p told r h = absurd (place_read contents given place job coordinate fault p told.job r.job_is h)
@@ -264,15 +120,15 @@ reads_height unit z height X fault r e = e
 reads_height unit z height Y fault r e = e
 reads_height unit z height Z fault r e = ok_err height fault (sym r ∙ e)
 
-height_read : (contents : List ℕ → Option (List ℕ)) (given : LevelWords) (height : ℤ) (job : Job) (coordinate : Coordinate) (fault : DecFault) → ReadsHeight job.unit given.z height
+height_read : (contents : List ℕ → Option (List ℕ)) (given : LevelWords) (height : ℤ) (job : JobFields) (coordinate : Coordinate) (fault : DecFault) → ReadsHeight job.unit given.z height
     → IsSome (contents given.job) → ReadsJob (setup_texts contents given.job given.part) job
     → RefusesHeight (setup_texts contents given.job given.part) given.z coordinate fault → ⊥
 height_read contents given height job coordinate fault reads told r h =
     let same : h.job ≡ job = same_job (setup_texts contents given.job given.part) h.job job told h.job_is r in
-    reads_height job.unit given.z height coordinate fault reads (subst (λ (j : Job). RefusesZ j.unit given.z coordinate fault) same h.refused)
+    reads_height job.unit given.z height coordinate fault reads (subst (λ (j : JobFields). RefusesZ j.unit given.z coordinate fault) same h.refused)
 
 -- a word that reads, and files that are told and read, give the chains or too many nodes, and nothing is refused
-pub is_leveled : (contents : List ℕ → Option (List ℕ)) (given : LevelWords) (height : ℤ) (job : Job) (part : List Tri) (a : Answer) → ReadsHeight job.unit given.z height
+pub is_leveled : (contents : List ℕ → Option (List ℕ)) (given : LevelWords) (height : ℤ) (job : JobFields) (part : List Tri) (a : Answer) → ReadsHeight job.unit given.z height
     → AreSetupTold (setup_texts contents given.job given.part) → ReadsSetup (setup_texts contents given.job given.part) job part
     → IsAnswer contents (level given.job given.part given.z) a → (answer_status a ≡ 0) ⊎ (answer_status a ≡ 9)
 is_leveled contents given height job part (refused_word coordinate fault) z told r h = absurd (height_read contents given height job coordinate fault z told.job r.job_is h)
@@ -288,23 +144,23 @@ is_leveled contents given height job part (sampled n answer) z told r h = absurd
 
 -- ---- `stock`
 
-pub same_stock_job : (texts : StockTexts) (a b : Job) → IsSome texts.job → ReadsStockJob texts a → ReadsStockJob texts b → a ≡ b
+pub same_stock_job : (texts : StockTexts) (a b : JobFields) → IsSome texts.job → ReadsStockJob texts a → ReadsStockJob texts b → a ≡ b
 same_stock_job texts a b told r s =
     let both = told_both (λ text. IsJobText text a) (λ text. IsJobText text b) texts.job told r s in
     job_text both.0 a b both.1 both.2
 
-fit_long_stock : (texts : StockTexts) (job : Job) (moves : List Move) → AreStockTold texts → ReadsStock texts job moves → LongStockProgram texts → ⊥
+fit_long_stock : (texts : StockTexts) (job : JobFields) (moves : List Move) → AreStockTold texts → ReadsStock texts job moves → LongStockProgram texts → ⊥
 fit_long_stock texts job moves told r h =
     let both = told_both IsTooLong (λ text. IsProgramText job text moves) texts.program told.program h.long r.moves_are in
     too_long _ _ both.1 both.2.fits
 
-fit_stock_moves : (texts : StockTexts) (job : Job) (moves : List Move) (fault : NgcFault) → AreStockTold texts → ReadsStock texts job moves → RefusesStockProgram texts fault → ⊥
+fit_stock_moves : (texts : StockTexts) (job : JobFields) (moves : List Move) (fault : NgcFault) → AreStockTold texts → ReadsStock texts job moves → RefusesStockProgram texts fault → ⊥
 fit_stock_moves texts job moves fault told r h =
     let same : h.job ≡ job = same_stock_job texts h.job job told.job h.job_is r.job_is in
     let both = told_both (λ text. IsRefusedProgram h.job text fault) (λ text. IsProgramText job text moves) texts.program told.program h.refused r.moves_are in
-    no_program_text job both.0 moves fault both.2 (subst (λ (j : Job). IsRefusedProgram j both.0 fault) same both.1)
+    no_program_text job both.0 moves fault both.2 (subst (λ (j : JobFields). IsRefusedProgram j both.0 fault) same both.1)
 
-pub fit_stock : (texts : StockTexts) (job : Job) (moves : List Move) (u : Unfit) → AreStockTold texts → ReadsStock texts job moves → IsUnfitStock texts u → ⊥
+pub fit_stock : (texts : StockTexts) (job : JobFields) (moves : List Move) (u : Unfit) → AreStockTold texts → ReadsStock texts job moves → IsUnfitStock texts u → ⊥
 fit_stock texts job moves (TooLong JobFile) told r h =
     let both = told_both IsTooLongJob (λ text. IsJobText text job) texts.job told.job h r.job_is in
     too_long _ _ both.1 both.2.fits
@@ -325,7 +181,7 @@ fit_stock texts job moves (ProgramRefused (StepProgram k) fault) told r h = h
 fit_stock texts job moves (PartTop height top unit) told r h = h
 
 -- files that are told and read give a surface or too many triangles, and nothing is refused
-pub is_stocked : (contents : List ℕ → Option (List ℕ)) (files : StockFiles) (job : Job) (moves : List Move) (a : Answer) → AreStockTold (stock_texts contents files.job files.program)
+pub is_stocked : (contents : List ℕ → Option (List ℕ)) (files : StockFiles) (job : JobFields) (moves : List Move) (a : Answer) → AreStockTold (stock_texts contents files.job files.program)
     → ReadsStock (stock_texts contents files.job files.program) job moves → IsAnswer contents (stock files.job files.program files.out) a → (answer_status a ≡ 0) ⊎ (answer_status a ≡ 9)
 is_stocked contents files job moves (refused_word coordinate fault) told r h = absurd h
 is_stocked contents files job moves (unfit u) told r h = absurd (fit_stock (stock_texts contents files.job files.program) job moves u told r h)
@@ -340,26 +196,26 @@ is_stocked contents files job moves (sampled n answer) told r h = absurd h
 
 -- ---- `rest`
 
-pub list_text : (job : Job) (text : List ℕ) (a b : List Step) → IsListText job text a → IsListText job text b → a ≡ b
+pub list_text : (job : JobFields) (text : List ℕ) (a b : List Step) → IsListText job text a → IsListText job text b → a ≡ b
 list_text job text a b r s = ok_is a b (one_list job text (Ok a) (Ok b) r.reads s.reads)
 
-pub no_list_text : (job : Job) (text : List ℕ) (steps : List Step) (fault : JobFault) → IsListText job text steps → IsRefusedList job text fault → ⊥
+pub no_list_text : (job : JobFields) (text : List ℕ) (steps : List Step) (fault : JobFault) → IsListText job text steps → IsRefusedList job text fault → ⊥
 no_list_text job text steps fault r refused = ok_err steps fault (one_list job text (Ok steps) (Err fault) r.reads refused.refused)
 
-pub same_steps : (texts : RestTexts) (job : Job) (a b : List Step) → IsSome texts.list → ReadsList texts job a → ReadsList texts job b → a ≡ b
+pub same_steps : (texts : RestTexts) (job : JobFields) (a b : List Step) → IsSome texts.list → ReadsList texts job a → ReadsList texts job b → a ≡ b
 same_steps texts job a b told r s =
     let both = told_both (λ text. IsListText job text a) (λ text. IsListText job text b) texts.list told r s in
     list_text job both.0 a b both.1 both.2
 
 -- a step whose program is told reads as one file, and so does each of a list
-same_file : (programs : List ℕ → Option (List ℕ)) (job : Job) (step : Step) (a b : CutFile) → IsSome (programs step.program) → ReadsStep programs job step a → ReadsStep programs job step b → a ≡ b
+same_file : (programs : List ℕ → Option (List ℕ)) (job : JobFields) (step : Step) (a b : CutFile) → IsSome (programs step.program) → ReadsStep programs job step a → ReadsStep programs job step b → a ≡ b
 same_file programs job step a b told r s =
     let both = told_both (λ text. IsProgramText job text a.moves) (λ text. IsProgramText job text b.moves) (programs step.program) told r.moves_are s.moves_are in
     let cutter : a.cutter ≡ b.cutter = r.cutter_is ∙ sym s.cutter_is in
     let moves : a.moves ≡ b.moves = program_text job both.0 a.moves b.moves both.1 both.2 in
     λ i. record { cutter = cutter i; moves = moves i }
 
-pub same_files : (programs : List ℕ → Option (List ℕ)) (job : Job) (steps : List Step) (a b : List CutFile) → All (λ step. IsSome (programs step.program)) steps → ReadsSteps programs job steps a
+pub same_files : (programs : List ℕ → Option (List ℕ)) (job : JobFields) (steps : List Step) (a b : List CutFile) → All (λ step. IsSome (programs step.program)) steps → ReadsSteps programs job steps a
     → ReadsSteps programs job steps b → a ≡ b
 same_files programs job [] [] [] told r s = refl
 same_files programs job [] [] (g ∷ b) told r s = absurd s
@@ -372,7 +228,7 @@ same_files programs job (step ∷ steps) (f ∷ a) (g ∷ b) told r s =
     λ i. first i ∷ others i
 
 -- a step within a list that is read is read
-pub step_read : (programs : List ℕ → Option (List ℕ)) (job : Job) (steps : List Step) (files : List CutFile) (k : ℕ) → ReadsSteps programs job steps files → k < length steps
+pub step_read : (programs : List ℕ → Option (List ℕ)) (job : JobFields) (steps : List Step) (files : List CutFile) (k : ℕ) → ReadsSteps programs job steps files → k < length steps
     → (file : CutFile) × ReadsStep programs job (step_at steps k) file
 step_read programs job [] files k r there = absurd (omega (there, arith))
 step_read programs job (step ∷ steps) [] k r there = absurd r
@@ -380,11 +236,11 @@ step_read programs job (step ∷ steps) (file ∷ files) zero r there = (file, r
 step_read programs job (step ∷ steps) (file ∷ files) (suc k) r there = step_read programs job steps files k r.1 (omega (there, arith))
 
 -- the step before which a list is read to stands in the list that is told, and is told and read
-reads_to : (texts : RestTexts) (job j : Job) (part : List Tri) (steps : List Step) (files : List CutFile) (step : Step) (k : ℕ) → AreRestTold texts steps → ReadsRest texts job part steps files
+reads_to : (texts : RestTexts) (job j : JobFields) (part : List Tri) (steps : List Step) (files : List CutFile) (step : Step) (k : ℕ) → AreRestTold texts steps → ReadsRest texts job part steps files
     → ReadsToStep texts j step k → (j ≡ job) × IsSome (texts.programs step.program) × ((file : CutFile) × ReadsStep texts.programs job step file)
 reads_to texts job j part steps files step k told r h =
     let same : j ≡ job = same_job texts.setup j job told.setup.job h.setup_is.job_is r.setup_is.job_is in
-    let list : h.steps ≡ steps = same_steps texts job h.steps steps told.list (subst (λ (x : Job). ReadsList texts x h.steps) same h.list_is) r.list_is in
+    let list : h.steps ≡ steps = same_steps texts job h.steps steps told.list (subst (λ (x : JobFields). ReadsList texts x h.steps) same h.list_is) r.list_is in
     let there : k < length steps = subst (λ (xs : List Step). k < length xs) list h.there in
     let is : step ≡ step_at steps k = h.step_is ∙ ap (λ (xs : List Step). step_at xs k) list in
     let read = step_read texts.programs job steps files k r.files_are there in (
@@ -393,32 +249,32 @@ reads_to texts job j part steps files step k told r h =
       (read.0, subst (λ (x : Step). ReadsStep texts.programs job x read.0) (sym is) read.1),
     )
 
-fit_long_list : (texts : RestTexts) (job : Job) (part : List Tri) (steps : List Step) (files : List CutFile) → AreRestTold texts steps → ReadsRest texts job part steps files → LongList texts → ⊥
+fit_long_list : (texts : RestTexts) (job : JobFields) (part : List Tri) (steps : List Step) (files : List CutFile) → AreRestTold texts steps → ReadsRest texts job part steps files → LongList texts → ⊥
 fit_long_list texts job part steps files told r h =
     let both = told_both IsTooLongJob (λ text. IsListText job text steps) texts.list told.list h.long r.list_is in
     too_long _ _ both.1 both.2.fits
 
-fit_list : (texts : RestTexts) (job : Job) (part : List Tri) (steps : List Step) (files : List CutFile) (fault : JobFault) → AreRestTold texts steps → ReadsRest texts job part steps files
+fit_list : (texts : RestTexts) (job : JobFields) (part : List Tri) (steps : List Step) (files : List CutFile) (fault : JobFault) → AreRestTold texts steps → ReadsRest texts job part steps files
     → RefusesList texts fault → ⊥
 fit_list texts job part steps files fault told r h =
     let same : h.job ≡ job = same_job texts.setup h.job job told.setup.job h.setup_is.job_is r.setup_is.job_is in
     let both = told_both (λ text. IsRefusedList h.job text fault) (λ text. IsListText job text steps) texts.list told.list h.refused r.list_is in
-    no_list_text job both.0 steps fault both.2 (subst (λ (j : Job). IsRefusedList j both.0 fault) same both.1)
+    no_list_text job both.0 steps fault both.2 (subst (λ (j : JobFields). IsRefusedList j both.0 fault) same both.1)
 
-fit_long_step : (texts : RestTexts) (job : Job) (part : List Tri) (steps : List Step) (files : List CutFile) (k : ℕ) → AreRestTold texts steps → ReadsRest texts job part steps files → LongStep texts k → ⊥
+fit_long_step : (texts : RestTexts) (job : JobFields) (part : List Tri) (steps : List Step) (files : List CutFile) (k : ℕ) → AreRestTold texts steps → ReadsRest texts job part steps files → LongStep texts k → ⊥
 fit_long_step texts job part steps files k told r h =
     let (same, there, read) = reads_to texts job h.job part steps files h.step k told r h.before in
     let both = told_both IsTooLong (λ text. IsProgramText job text read.0.moves) (texts.programs h.step.program) there h.long read.1.moves_are in
     too_long _ _ both.1 both.2.fits
 
-fit_step : (texts : RestTexts) (job : Job) (part : List Tri) (steps : List Step) (files : List CutFile) (k : ℕ) (fault : NgcFault) → AreRestTold texts steps → ReadsRest texts job part steps files
+fit_step : (texts : RestTexts) (job : JobFields) (part : List Tri) (steps : List Step) (files : List CutFile) (k : ℕ) (fault : NgcFault) → AreRestTold texts steps → ReadsRest texts job part steps files
     → RefusesStep texts k fault → ⊥
 fit_step texts job part steps files k fault told r h =
     let (same, there, read) = reads_to texts job h.job part steps files h.step k told r h.before in
     let both = told_both (λ text. IsRefusedProgram h.job text fault) (λ text. IsProgramText job text read.0.moves) (texts.programs h.step.program) there h.refused read.1.moves_are in
-    no_program_text job both.0 read.0.moves fault both.2 (subst (λ (j : Job). IsRefusedProgram j both.0 fault) same both.1)
+    no_program_text job both.0 read.0.moves fault both.2 (subst (λ (j : JobFields). IsRefusedProgram j both.0 fault) same both.1)
 
-pub fit_rest : (texts : RestTexts) (job : Job) (part : List Tri) (steps : List Step) (files : List CutFile) (u : Unfit) → AreRestTold texts steps → ReadsRest texts job part steps files → IsUnfitRest texts u → ⊥
+pub fit_rest : (texts : RestTexts) (job : JobFields) (part : List Tri) (steps : List Step) (files : List CutFile) (u : Unfit) → AreRestTold texts steps → ReadsRest texts job part steps files → IsUnfitRest texts u → ⊥
 fit_rest texts job part steps files (TooLong JobFile) told r h = fit_setup texts.setup job part (TooLong JobFile) told.setup r.setup_is h
 fit_rest texts job part steps files (TooLong PartFile) told r h = fit_setup texts.setup job part (TooLong PartFile) told.setup r.setup_is h
 fit_rest texts job part steps files (TooLong ProgramFile) told r h = h
@@ -435,24 +291,24 @@ fit_rest texts job part steps files (ProgramRefused (StepProgram k) fault) told 
 fit_rest texts job part steps files (PartTop height top unit) told r h = fit_setup texts.setup job part (PartTop height top unit) told.setup r.setup_is h
 
 -- what was judged is what was read
-pub judged_list_is : (texts : RestTexts) (job j : Job) (part p : List Tri) (steps ss : List Step) (files fs : List CutFile) (v : ListVerdict) → AreRestTold texts steps → ReadsRest texts job part steps files
+pub judged_list_is : (texts : RestTexts) (job j : JobFields) (part p : List Tri) (steps ss : List Step) (files fs : List CutFile) (v : ListVerdict) → AreRestTold texts steps → ReadsRest texts job part steps files
     → JudgesFiles texts j p ss fs v → IsListVerdict job part files v
 judged_list_is texts job j part p steps ss files fs v told r h =
     let e : j ≡ job = same_job texts.setup j job told.setup.job h.all_read.setup_is.job_is r.setup_is.job_is in
-    let f : p ≡ part = same_part texts.setup job p part told.setup.part (subst (λ (x : Job). ReadsPart texts.setup x p) e h.all_read.setup_is.part_is) r.setup_is.part_is in
-    let list : ss ≡ steps = same_steps texts job ss steps told.list (subst (λ (x : Job). ReadsList texts x ss) e h.all_read.list_is) r.list_is in
-    let here : ReadsSteps texts.programs job steps fs = subst (λ (xs : List Step). ReadsSteps texts.programs job xs fs) list (subst (λ (x : Job). ReadsSteps texts.programs x ss fs) e h.all_read.files_are) in
+    let f : p ≡ part = same_part texts.setup job p part told.setup.part (subst (λ (x : JobFields). ReadsPart texts.setup x p) e h.all_read.setup_is.part_is) r.setup_is.part_is in
+    let list : ss ≡ steps = same_steps texts job ss steps told.list (subst (λ (x : JobFields). ReadsList texts x ss) e h.all_read.list_is) r.list_is in
+    let here : ReadsSteps texts.programs job steps fs = subst (λ (xs : List Step). ReadsSteps texts.programs job xs fs) list (subst (λ (x : JobFields). ReadsSteps texts.programs x ss fs) e h.all_read.files_are) in
     let g : fs ≡ files = same_files texts.programs job steps fs files told.programs here r.files_are in
-    subst (λ (x : List CutFile). IsListVerdict job part x v) g (subst (λ (x : List Tri). IsListVerdict job x fs v) f (subst (λ (x : Job). IsListVerdict x p fs v) e h.is))
+    subst (λ (x : List CutFile). IsListVerdict job part x v) g (subst (λ (x : List Tri). IsListVerdict job x fs v) f (subst (λ (x : JobFields). IsListVerdict x p fs v) e h.is))
 
 -- the answer is the status of a verdict on what was read
-pub record HasListVerdict (job : Job) (part : List Tri) (files : List CutFile) (status : ℕ) : Type 0 where
+pub record HasListVerdict (job : JobFields) (part : List Tri) (files : List CutFile) (status : ℕ) : Type 0 where
   pub verdict : ListVerdict
   pub is : IsListVerdict job part files verdict
   pub same : status ≡ list_status verdict
 
 -- files that are told and read are judged, and nothing is refused
-pub is_judged_in_turn : (contents : List ℕ → Option (List ℕ)) (names : RestFiles) (workers : ℕ) (job : Job) (part : List Tri) (steps : List Step) (files : List CutFile) (a : Answer)
+pub is_judged_in_turn : (contents : List ℕ → Option (List ℕ)) (names : RestFiles) (workers : ℕ) (job : JobFields) (part : List Tri) (steps : List Step) (files : List CutFile) (a : Answer)
     → AreRestTold (rest_texts contents names) steps → ReadsRest (rest_texts contents names) job part steps files → IsAnswer contents (rest names.job names.part names.list workers) a
     → HasListVerdict job part files (answer_status a)
 is_judged_in_turn contents names workers job part steps files (refused_word coordinate fault) told r h = absurd h

@@ -6,15 +6,13 @@ use Rattle.mill_command.specs.Requests.{Request, verify, plan, drop, level, stoc
 use Rattle.mill_plan.specs.Plans.{done, too_many_nodes, too_many_moves, uncut, held}
 use Rattle.mill_verify.specs.declared.list.ListVerdict.TheVariants as list
 use Rattle.mill_verify.specs.declared.verdict.Verdict.TheVariants.{Accept, Reject}
-use Rattle.mill_run.specs.Answers.{Answer, refused_word, unfit, judged, planned, dropped, leveled, stocked, judged_files, sampled, answer_status, answer_file, IsAnswer}
-use Rattle.mill_run.specs.Calls.{Call, NamedText, NoFault, Stores, BlamesWrites, BlamesReads}
+use Rattle.mill_run.specs.Answers.{Answer, refused_word, unfit, judged, planned, dropped, leveled, stocked, judged_files, sampled, answer_status, answer_file, IsAnswer, NamedText}
+use Rattle.mill_answer.specs.Calls.{Call, NoFault, BlamesWrites, BlamesReads}
+use Rattle.mill_run.specs.Outcomes.{Stores, Outcome, help, bad_words, no_memory, read_fault, answered, outcome_status, outcome_file, IsOutcomeOf, ShowsWhole, FailsToStore, FailsToPrint, CountsReads, Shows, HasOutcome}
 use Rattle.mill_run.specs.Level.{outlines, too_many_nodes as too_fine}
-use Rattle.mill_run.specs.Outcomes.{Outcome, help, bad_words, no_memory, read_fault, answered, outcome_status, outcome_file, IsOutcomeOf, ShowsWhole, FailsToStore, FailsToPrint, CountsReads, Shows, HasOutcome}
 use Rattle.mill_run.specs.Stock.{drawn, too_many_triangles}
 use Rattle.mill_run.specs.Words.{AsksNoFileStored}
-
-pub stays : (a b : ℕ) → a < b → b ≡ a → ⊥
-stays a b h e = omega (h, e, arith)
+use Rattle.mill_answer.proofs.Counts.{stays, no, on}
 
 none_some : (file : NamedText) → (let o : Option NamedText = None in o) ≡ Some file → ⊥
 none_some file e = cc
@@ -45,12 +43,6 @@ status_not n n0 n3 n4 n8 n9 (sampled size (uncut row column top)) e = n8 e
 status_not n n0 n3 n4 n8 n9 (sampled size (held number row column)) e = n8 e
 status_not n n0 n3 n4 n8 n9 (sampled size (too_many_nodes nodes)) e = n9 e
 status_not n n0 n3 n4 n8 n9 (sampled size too_many_moves) e = n9 e
-
-pub no : (a b : ℕ) → a < b → a ≢ b
-no a b h e = omega (h, e, arith)
-
-pub on : (a b : ℕ) → b < a → a ≢ b
-on a b h e = omega (h, e, arith)
 
 pub answer_not_2 : (a : Answer) → answer_status a ≢ 2
 answer_not_2 = status_not 2 (no 0 2 (omega arith)) (on 3 2 (omega arith)) (on 4 2 (omega arith)) (on 8 2 (omega arith)) (on 9 2 (omega arith))

@@ -7,24 +7,24 @@ use Rattle.mill_base.specs.declared.points.Tri.{Tri}
 use Rattle.mill_base.specs.declared.motion.Move.{Move}
 use Rattle.mill_job.specs.Columns.{home}
 use Rattle.mill_job.specs.Jobs.{IsJob}
-use Rattle.mill_job.specs.declared.job.Job.{Job}
+use Rattle.mill_job.specs.declared.fields.JobFields.{JobFields}
 use Rattle.mill_plan.specs.Plans.{IsDone, done, too_many_nodes, too_many_moves, uncut, held as holder_stops}
 use Rattle.mill_verify.specs.Lists.{OneListVerdict}
 use Rattle.mill_verify.specs.Verdicts.{IsVerdict, OneVerdict}
 use Rattle.mill_verify.specs.declared.list.ListVerdict.TheVariants as list
 use Rattle.mill_verify.specs.declared.verdict.Verdict.TheVariants.{Accept, Reject}
 use Rattle.mill_run.specs.Answers.{Answer, refused_word, unfit, judged, planned, dropped, leveled, stocked, judged_files, sampled, answer_status, answer_line, answer_file, IsAnswer}
-use Rattle.mill_run.specs.Calls.{Call, HoldsReads, Stores}
-use Rattle.mill_run.specs.Headline.{AcceptsSafely, RejectsFirst, Headline, StoresSafely, PlanHeadline, StoresStock, StockHeadline, AcceptsFilesSafely, RejectsFilesFirst, RestHeadline}
-use Rattle.mill_run.specs.Outcomes.{HasOutcome}
+use Rattle.mill_answer.specs.Calls.{Call, HoldsReads}
+use Rattle.mill_run.specs.Outcomes.{Stores, HasOutcome}
+use Rattle.mill_answer.specs.Verify.{AcceptsSafely, Judges, texts_of, verdict_status, Files}
+use Rattle.mill_run.specs.Headline.{RejectsFirst, Headline, StoresSafely, PlanHeadline, StoresStock, StockHeadline, AcceptsFilesSafely, RejectsFilesFirst, RestHeadline}
 use Rattle.mill_run.specs.Plan.{Plans, plan_line}
 use Rattle.mill_run.specs.Rest.{JudgesFiles, rest_texts, list_status}
 use Rattle.mill_load.specs.Setup.{setup_texts}
 use Rattle.mill_run.specs.Stock.{stock_texts, stock_line, drawn, too_many_triangles, DrawsStock}
-use Rattle.mill_run.specs.Verify.{Judges, texts_of, verdict_status}
-use Rattle.mill_run.specs.Words.{Files, PlanFiles, StockFiles, RestFiles}
+use Rattle.mill_run.specs.Words.{PlanFiles, StockFiles, RestFiles}
 use Rattle.mill_run.proofs.Answering.{is_judged, is_judged_in_turn}
-use Rattle.mill_run.proofs.Blaming.{no, on}
+use Rattle.mill_answer.proofs.Counts.{no, on}
 use Rattle.mill_run.proofs.Follows.{text_follows}
 use Rattle.mill_run.proofs.Lengths.{plan_fits}
 use Rattle.mill_run.proofs.Outcomes.{answered_by, answers_of}
@@ -96,7 +96,7 @@ headline_of one words call has = record {
 -- ---- `plan`
 
 -- a plan's text reads back as its moves, which are accepted, whatever the files hold
-done_safely : (call : Call) (files : PlanFiles) (job : Job) (part : List Tri) (text : List ℕ) (count columns : ℕ) (left : ℤ)
+done_safely : (call : Call) (files : PlanFiles) (job : JobFields) (part : List Tri) (text : List ℕ) (count columns : ℕ) (left : ℤ)
     → ((contents : List ℕ → Option (List ℕ)) → HoldsReads contents call → Plans (setup_texts contents files.job files.part) job part (done text count columns left)) → IsJob job
     → IsDone job part text count columns left → IsStored files.out text call.store call.store_after → IsWritten (plan_line job.unit (done text count columns left)) call.sink call.sink_after
     → StoresSafely call files
@@ -151,7 +151,7 @@ plan_headline_of words call has = λ files asks e.
 
 -- ---- `stock`
 
-drawn_stored : (call : Call) (files : StockFiles) (job : Job) (moves : List Move) (text : List ℕ) (count : ℕ) (own : HoldsReads call.store.contents call)
+drawn_stored : (call : Call) (files : StockFiles) (job : JobFields) (moves : List Move) (text : List ℕ) (count : ℕ) (own : HoldsReads call.store.contents call)
     → ((contents : List ℕ → Option (List ℕ)) → HoldsReads contents call → DrawsStock (stock_texts contents files.job files.program) job moves (drawn text count))
     → IsStored files.out text call.store call.store_after → IsWritten (stock_line (drawn text count)) call.sink call.sink_after → StoresStock call files
 drawn_stored call files job moves text count own draws stored printed =

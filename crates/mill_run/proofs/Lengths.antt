@@ -9,7 +9,7 @@ use Rattle.mill_base.specs.declared.motion.Kind.TheVariants.{Rapid, Feed}
 use Rattle.mill_base.specs.declared.motion.Move.{Move}
 use Rattle.mill_base.specs.declared.unit.Unit.{Unit as LengthUnit}
 use Rattle.mill_decimal.proofs.Canonical.{length-canonical}
-use Rattle.mill_post.specs.Texts.{motion_word, ended, move_line, program_text}
+use Rattle.mill_ngc.specs.Writing.{motion_word, ended, move_line, program_text}
 use Rattle.mill_load.specs.Setup.{Fits}
 
 -- ---- the line of a move

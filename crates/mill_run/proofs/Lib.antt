@@ -1,4 +1,3 @@
-pub mod Told
 pub mod Taken
 pub mod Answering
 pub mod Blaming
@@ -13,6 +12,6 @@ pub mod Lengths
 pub mod Outcomes
 pub mod Headlines
 pub mod Named
-pub mod ExitCodes
 pub mod Triangles
 pub mod OneAnswers
+mod SampleParts

@@ -1,8 +1,7 @@
 -- Where its files are told, a request has one answer: each answer is that of the first check that fails, and there is one such check.
-use Rattle.std.proofs.Common.{◌≡◌, ◌⊎◌, ℕ, List, Option, Result, Err, length, take, refl, sym, ap, subst, ◌∙◌, inl, inr, arith, length-take-le}
-use Rattle.std.specs.Prelude.{◌<◌, ◌≤◌, ℤ, ◌≤ℤ◌, All, IfSome, IsSome}
+use Rattle.std.proofs.Common.{◌≡◌, ◌⊎◌, ℕ, List, Option, Err, length, take, refl, sym, ap, subst, ◌∙◌, inl, inr, arith, length-take-le}
+use Rattle.std.specs.Prelude.{◌<◌, ◌≤◌, ℤ, All, IfSome, IsSome}
 use Rattle.std.proofs.lemmas.Bool.{cases_lt}
-use Rattle.std.proofs.lemmas.Int.{ints}
 use Rattle.std.proofs.lemmas.List.{get_or-take}
 use Rattle.std.proofs.lemmas.List.Elements.{All-get_or}
 use Rattle.mill_base.specs.Lattices.{node_count}
@@ -10,34 +9,31 @@ use Rattle.mill_base.specs.declared.limits.TheConstants.{MAX_NODES, MAX_TRIANGLE
 use Rattle.mill_base.specs.declared.motion.Move.{Move}
 use Rattle.mill_base.specs.declared.points.Tri.{Tri}
 use Rattle.mill_base.specs.declared.unit.Unit.{Unit as LengthUnit}
-use Rattle.mill_block.specs.declared.fault.NgcFault.{NgcFault}
 use Rattle.mill_command.specs.Requests.{verify, plan, drop, level, stock, rest, sample}
 use Rattle.mill_decimal.specs.declared.fault.DecFault.{DecFault}
 use Rattle.mill_drop.proofs.Uniqueness.{one_height}
 use Rattle.mill_drop.specs.Drops.{IsDropHeight}
-use Rattle.mill_job.proofs.OneAnswer.{one_answer}
 use Rattle.mill_job.specs.Jobs.{tool_of}
 use Rattle.mill_job.specs.declared.fault.JobFault.{JobFault}
-use Rattle.mill_job.specs.declared.job.Job.{Job}
-use Rattle.mill_job.specs.declared.job.Place.{Place}
+use Rattle.mill_job.specs.declared.fields.JobFields.{JobFields}
+use Rattle.mill_job.specs.declared.fields.Place.{Place}
 use Rattle.mill_level.specs.Waterlines.{HasManyNodes, OneWaterline}
-use Rattle.mill_list.proofs.OneList.{one_list}
-use Rattle.mill_list.specs.declared.step.Step.{Step}
+use Rattle.mill_job.proofs.OneList.{one_list}
+use Rattle.mill_job.specs.declared.step.Step.{Step}
 use Rattle.mill_load.specs.Places.{ReadsHeight, ReadsPlace, RefusesWord, RefusesZ}
 use Rattle.mill_load.specs.Programs.{IsProgramText, IsRefusedProgram}
-use Rattle.mill_load.specs.Setup.{AreSetupTold, IsJobText, IsPartText, IsRefusedJob, IsRefusedPart, IsTooLong, IsTooLongJob, IsUnfit, IsUnfitWith, ReadsJob, ReadsPart, ReadsSetup, SetupTexts, setup_texts}
-use Rattle.mill_load.specs.declared.file.File.{File}
+use Rattle.mill_load.specs.Setup.{AreSetupTold, IsTooLong, IsTooLongJob, IsUnfit, IsUnfitWith, ReadsJob, ReadsPart, ReadsSetup, SetupTexts, setup_texts}
 use Rattle.mill_load.specs.declared.file.File.TheVariants.{Job as JobFile, List as ListFile, Part as PartFile, Program as ProgramFile, StepProgram}
 use Rattle.mill_load.specs.declared.load.Unfit.{Unfit}
 use Rattle.mill_load.specs.declared.load.Unfit.TheVariants.{JobRefused, ListRefused, PartRefused, PartTop, ProgramRefused, TooLong}
 use Rattle.mill_load.specs.declared.place.Coordinate.{Coordinate}
 use Rattle.mill_load.specs.declared.place.Coordinate.TheVariants.{X, Y, Z}
-use Rattle.mill_part.specs.Tops.{HasCornerAt, IsTop}
 use Rattle.mill_paths.specs.Lattices.{finish_lattice}
 use Rattle.mill_plan.specs.Laws.{OnePlanAnswer}
 use Rattle.mill_plan.specs.Plans.{IsPlanAnswer, PlanAnswer}
-use Rattle.mill_run.proofs.Answering.{fit_program, fit_rest, fit_setup, fit_stock, judged_is, judged_list_is, no_job_text, no_list_text, no_part_text, no_program_text, ok_err, ok_is, program_text, reads_height, reads_word, same_files, same_job, same_moves, same_part, same_steps, same_stock_job, step_read, too_long, unfit_of}
-use Rattle.mill_run.proofs.Told.{told_both}
+use Rattle.mill_answer.proofs.Answering.{fit_setup, no_program_text, ok_err, ok_is, program_text, same_job, same_part, too_long}
+use Rattle.mill_run.proofs.Answering.{fit_rest, fit_stock, judged_list_is, no_list_text, reads_height, reads_word, same_files, same_steps, same_stock_job, step_read, unfit_of}
+use Rattle.mill_answer.proofs.Told.{told_both}
 use Rattle.mill_run.specs.Answers.{Answer, IsAnswer, dropped, judged, judged_files, leveled, planned, refused_word, sampled, stocked, unfit}
 use Rattle.mill_run.specs.Drop.{Drops, HasPlace, RefusesPlace}
 use Rattle.mill_run.specs.Level.{HasHeight, IsLevelAnswer, LevelAnswer, Levels, RefusesHeight, outlines, too_many_nodes}
@@ -46,207 +42,33 @@ use Rattle.mill_run.specs.Laws.{IsListTold, OneAnswer}
 use Rattle.mill_run.specs.Rest.{AreRestTold, IsListText, IsRefusedList, IsUnfitRest, JudgesFiles, ReadsList, ReadsRest, ReadsStep, ReadsSteps, ReadsToStep, RestTexts, rest_texts, step_at}
 use Rattle.mill_run.specs.Sample.{Samples}
 use Rattle.mill_run.specs.Stock.{AreStockTold, DrawsStock, IsStockAnswer, IsUnfitStock, ReadsStockJob, StockAnswer, StockTexts, drawn, stock_surface, stock_texts, too_many_triangles}
-use Rattle.mill_run.specs.Verify.{AreTold, IsUnfitProgram, Judges, ReadsProgram, Texts, texts_of}
-use Rattle.mill_stl.specs.declared.fault.StlFault.{StlFault}
-use Rattle.mill_sample.specs.Sample.{sample_job, sample_part}
+use Rattle.mill_answer.specs.Verify.{AreTold, Texts, texts_of}
+use Rattle.mill_run.specs.SamplePart.{sample_job, sample_part}
 use Rattle.mill_run.proofs.Triangles.{length-surface}
 use Rattle.mill_surface.specs.Surfaces.{HasManyTriangles}
 use Rattle.mill_dexel.specs.Tops.{top_point}
 use Rattle.mill_verify.specs.Files.{File as CutFile}
 use Rattle.mill_verify.specs.Lists.{OneListVerdict}
-use Rattle.mill_verify.specs.Verdicts.{OneVerdict}
 use Rattle.mill_verify.specs.declared.list.ListVerdict.{ListVerdict}
-use Rattle.mill_verify.specs.declared.verdict.Verdict.{Verdict}
-
-err_is : {A E : Type 0} (a b : E) → (let r : Result A E = Err a in r) ≡ Err b → a ≡ b
-err_is a b e = cc
-
--- ---- the job's file
-
--- its check that fails: it is too long, or refused
-abbrev JobStops : Option (List ℕ) → Unfit → Type 0
-JobStops told u = ((u ≡ TooLong JobFile) × IfSome told IsTooLongJob) ⊎ ((fault : JobFault) × (u ≡ JobRefused fault) × IfSome told (λ text. IsRefusedJob text fault))
-
-one_job_stop : (told : Option (List ℕ)) (u w : Unfit) → IsSome told → JobStops told u → JobStops told w → u ≡ w
-one_job_stop told u w some (inl s) (inl t) = s.0 ∙ sym t.0
-one_job_stop told u w some (inl s) (inr t) =
-    let both = told_both IsTooLongJob (λ text. IsRefusedJob text t.0) told some s.1 t.2 in
-    absurd (too_long _ _ both.1 both.2.fits)
-one_job_stop told u w some (inr s) (inl t) =
-    let both = told_both IsTooLongJob (λ text. IsRefusedJob text s.0) told some t.1 s.2 in
-    absurd (too_long _ _ both.1 both.2.fits)
-one_job_stop told u w some (inr s) (inr t) =
-    let both = told_both (λ text. IsRefusedJob text s.0) (λ text. IsRefusedJob text t.0) told some s.2 t.2 in
-    s.1 ∙ ap JobRefused (err_is s.0 t.0 (one_answer both.0 (Err s.0) (Err t.0) both.1.refused both.2.refused)) ∙ sym t.1
-
--- a job that is read stops nothing
-job_goes_on : (told : Option (List ℕ)) (job : Job) (u : Unfit) → IsSome told → IfSome told (λ text. IsJobText text job) → JobStops told u → ⊥
-job_goes_on told job u some r (inl s) =
-    let both = told_both IsTooLongJob (λ text. IsJobText text job) told some s.1 r in
-    too_long _ _ both.1 both.2.fits
-job_goes_on told job u some r (inr s) =
-    let both = told_both (λ text. IsRefusedJob text s.0) (λ text. IsJobText text job) told some s.2 r in
-    no_job_text both.0 job s.0 both.2 both.1
-
--- ---- the part's file
-
--- the part is over the job's top
-record IsHigh (texts : SetupTexts) (job : Job) (u : Unfit) : Type 0 where
-  part : List Tri
-  height : ℤ
-  is : u ≡ PartTop height job.top job.unit
-  part_is : ReadsPart texts job part
-  greatest : IsTop part height
-
--- its check that fails: it is too long, or refused, or too high
-abbrev PartStops : SetupTexts → Job → Unfit → Type 0
-PartStops texts job u =
-    ((u ≡ TooLong PartFile) × IfSome texts.part IsTooLong)
-    ⊎ (((fault : StlFault) × (u ≡ PartRefused fault) × IfSome texts.part (λ text. IsRefusedPart job text fault)) ⊎ IsHigh texts job u)
-
--- a part has one greatest height
-at_most : (part : List Tri) (a b : ℤ) → IsTop part a → IsTop part b → a ≤ℤ b
-at_most part a b s t = corner s.corner
-  where
-    corner : HasCornerAt s.tri a → a ≤ℤ b
-    corner (inl e) = subst (λ (h : ℤ). h ≤ℤ b) e (t.under s.tri s.member).0
-    corner (inr (inl e)) = subst (λ (h : ℤ). h ≤ℤ b) e (t.under s.tri s.member).1
-    corner (inr (inr e)) = subst (λ (h : ℤ). h ≤ℤ b) e (t.under s.tri s.member).2
-
-both_ways : (a b : ℤ) → a ≤ℤ b → b ≤ℤ a → a ≡ b
-both_ways a b h g = omega (h, g, arith, ints)
-
-one_high : (texts : SetupTexts) (job : Job) (u w : Unfit) → IsSome texts.part → IsHigh texts job u → IsHigh texts job w → u ≡ w
-one_high texts job u w some s t =
-    let same : s.part ≡ t.part = same_part texts job s.part t.part some s.part_is t.part_is in
-    let greatest : IsTop t.part s.height = subst (λ (p : List Tri). IsTop p s.height) same s.greatest in
-    let height : s.height ≡ t.height = both_ways s.height t.height (at_most t.part s.height t.height greatest t.greatest) (at_most t.part t.height s.height t.greatest greatest) in
-    s.is ∙ ap (λ h. PartTop h job.top job.unit) height ∙ sym t.is
-
-long_or_refused : (texts : SetupTexts) (job : Job) (fault : StlFault) → IsSome texts.part → IfSome texts.part IsTooLong → IfSome texts.part (λ text. IsRefusedPart job text fault) → ⊥
-long_or_refused texts job fault some s t =
-    let both = told_both IsTooLong (λ text. IsRefusedPart job text fault) texts.part some s t in
-    too_long _ _ both.1 both.2.fits
-
-long_or_high : (texts : SetupTexts) (job : Job) (part : List Tri) → IsSome texts.part → IfSome texts.part IsTooLong → ReadsPart texts job part → ⊥
-long_or_high texts job part some s t =
-    let both = told_both IsTooLong (λ text. IsPartText job text part) texts.part some s t in
-    too_long _ _ both.1 both.2.fits
-
-refused_or_high : (texts : SetupTexts) (job : Job) (part : List Tri) (fault : StlFault) → IsSome texts.part → IfSome texts.part (λ text. IsRefusedPart job text fault) → ReadsPart texts job part → ⊥
-refused_or_high texts job part fault some s t =
-    let both = told_both (λ text. IsRefusedPart job text fault) (λ text. IsPartText job text part) texts.part some s t in
-    no_part_text job both.0 part fault both.2 both.1
-
-one_part_stop : (texts : SetupTexts) (job : Job) (u w : Unfit) → IsSome texts.part → PartStops texts job u → PartStops texts job w → u ≡ w
-one_part_stop texts job u w some (inl s) (inl t) = s.0 ∙ sym t.0
-one_part_stop texts job u w some (inl s) (inr (inl t)) = absurd (long_or_refused texts job t.0 some s.1 t.2)
-one_part_stop texts job u w some (inl s) (inr (inr t)) = absurd (long_or_high texts job t.part some s.1 t.part_is)
-one_part_stop texts job u w some (inr (inl s)) (inl t) = absurd (long_or_refused texts job s.0 some t.1 s.2)
-one_part_stop texts job u w some (inr (inl s)) (inr (inl t)) =
-    let both = told_both (λ text. IsRefusedPart job text s.0) (λ text. IsRefusedPart job text t.0) texts.part some s.2 t.2 in
-    s.1 ∙ ap PartRefused (err_is s.0 t.0 (sym both.1.refused ∙ both.2.refused)) ∙ sym t.1
-one_part_stop texts job u w some (inr (inl s)) (inr (inr t)) = absurd (refused_or_high texts job t.part s.0 some s.2 t.part_is)
-one_part_stop texts job u w some (inr (inr s)) (inl t) = absurd (long_or_high texts job s.part some t.1 s.part_is)
-one_part_stop texts job u w some (inr (inr s)) (inr (inl t)) = absurd (refused_or_high texts job s.part t.0 some t.2 s.part_is)
-one_part_stop texts job u w some (inr (inr s)) (inr (inr t)) = one_high texts job u w some s t
-
--- ---- job and part
-
--- the job stops it, or the part does
-abbrev SetupStops : SetupTexts → Unfit → Type 0
-SetupStops texts u = JobStops texts.job u ⊎ ((job : Job) × ReadsJob texts job × PartStops texts job u)
-
-setup_stop : (texts : SetupTexts) (u : Unfit) → IsUnfit texts u → SetupStops texts u
-setup_stop texts (TooLong JobFile) h = inl (inl (refl, h))
-setup_stop texts (TooLong PartFile) h = inr (h.job, h.job_is, inl (refl, h.long))
-setup_stop texts (TooLong ProgramFile) h = absurd h
-setup_stop texts (TooLong ListFile) h = absurd h
-setup_stop texts (TooLong (StepProgram k)) h = absurd h
-setup_stop texts (JobRefused fault) h = inl (inr (fault, refl, h))
-setup_stop texts (PartRefused fault) h = inr (h.job, h.job_is, inr (inl (fault, refl, h.refused)))
-setup_stop texts (ListRefused fault) h = absurd h
-setup_stop texts (PartTop height top unit) h = inr (h.job, h.job_is, inr (inr (record { part = h.part; height = height; is = (λ i. PartTop height (h.limit i) (h.unit_is i)); part_is = h.part_is; greatest = h.greatest })))
-setup_stop texts (ProgramRefused file fault) h = absurd h
-
-one_setup_stop : (texts : SetupTexts) (u w : Unfit) → AreSetupTold texts → SetupStops texts u → SetupStops texts w → u ≡ w
-one_setup_stop texts u w told (inl s) (inl t) = one_job_stop texts.job u w told.job s t
-one_setup_stop texts u w told (inl s) (inr t) = absurd (job_goes_on texts.job t.0 u told.job t.1 s)
-one_setup_stop texts u w told (inr s) (inl t) = absurd (job_goes_on texts.job s.0 w told.job s.1 t)
-one_setup_stop texts u w told (inr s) (inr t) =
-    let same : s.0 ≡ t.0 = same_job texts s.0 t.0 told.job s.1 t.1 in
-    one_part_stop texts t.0 u w told.part (subst (λ (j : Job). PartStops texts j u) same s.2) t.2
-
-one_unfit : (texts : SetupTexts) (u w : Unfit) → AreSetupTold texts → IsUnfit texts u → IsUnfit texts w → u ≡ w
-one_unfit texts u w told h k = one_setup_stop texts u w told (setup_stop texts u h) (setup_stop texts w k)
-
--- ---- a program
-
--- its check that fails: it is too long, or refused
-abbrev ProgramStops : Option (List ℕ) → Job → File → Unfit → Type 0
-ProgramStops told job file u =
-    ((u ≡ TooLong file) × IfSome told IsTooLong) ⊎ ((fault : NgcFault) × (u ≡ ProgramRefused file fault) × IfSome told (λ text. IsRefusedProgram job text fault))
-
-one_program_stop : (told : Option (List ℕ)) (job : Job) (file : File) (u w : Unfit) → IsSome told → ProgramStops told job file u → ProgramStops told job file w → u ≡ w
-one_program_stop told job file u w some (inl s) (inl t) = s.0 ∙ sym t.0
-one_program_stop told job file u w some (inl s) (inr t) =
-    let both = told_both IsTooLong (λ text. IsRefusedProgram job text t.0) told some s.1 t.2 in
-    absurd (too_long _ _ both.1 both.2.fits)
-one_program_stop told job file u w some (inr s) (inl t) =
-    let both = told_both IsTooLong (λ text. IsRefusedProgram job text s.0) told some t.1 s.2 in
-    absurd (too_long _ _ both.1 both.2.fits)
-one_program_stop told job file u w some (inr s) (inr t) =
-    let both = told_both (λ text. IsRefusedProgram job text s.0) (λ text. IsRefusedProgram job text t.0) told some s.2 t.2 in
-    s.1 ∙ ap (λ f. ProgramRefused file f) (err_is s.0 t.0 (sym both.1.refused ∙ both.2.refused)) ∙ sym t.1
+use Rattle.mill_answer.proofs.OneJudgments.{err_is, JobStops, one_job_stop, job_goes_on, one_unfit, ProgramStops, one_program_stop}
+use Rattle.mill_answer.specs.Judgments.{Judgment, IsJudgment, OneJudgment, unfit as unfit_files, judged as judged_program}
 
 -- ---- `verify`
 
-abbrev VerifyStops : Texts → Unfit → Type 0
-VerifyStops texts u = IsUnfit texts.setup u ⊎ ((job : Job) × (part : List Tri) × ReadsSetup texts.setup job part × ProgramStops texts.program job ProgramFile u)
-
-verify_stop : (texts : Texts) (u : Unfit) → IsUnfitProgram texts u → VerifyStops texts u
-verify_stop texts (TooLong JobFile) h = inl h
-verify_stop texts (TooLong PartFile) h = inl h
-verify_stop texts (TooLong ProgramFile) h = inr (h.job, h.part, h.setup_is, inl (refl, h.long))
-verify_stop texts (TooLong ListFile) h = absurd h
-verify_stop texts (TooLong (StepProgram k)) h = absurd h
-verify_stop texts (JobRefused fault) h = inl h
-verify_stop texts (PartRefused fault) h = inl h
-verify_stop texts (ListRefused fault) h = absurd h
-verify_stop texts (PartTop height top unit) h = inl h
-verify_stop texts (ProgramRefused JobFile fault) h = absurd h
-verify_stop texts (ProgramRefused PartFile fault) h = absurd h
-verify_stop texts (ProgramRefused ProgramFile fault) h = inr (h.job, h.part, h.setup_is, inr (fault, refl, h.refused))
-verify_stop texts (ProgramRefused ListFile fault) h = absurd h
-verify_stop texts (ProgramRefused (StepProgram k) fault) h = absurd h
-
-one_verify_stop : (texts : Texts) (u w : Unfit) → AreTold texts → VerifyStops texts u → VerifyStops texts w → u ≡ w
-one_verify_stop texts u w told (inl s) (inl t) = one_unfit texts.setup u w told.setup s t
-one_verify_stop texts u w told (inl s) (inr t) = absurd (fit_setup texts.setup t.0 t.1 u told.setup t.2 s)
-one_verify_stop texts u w told (inr s) (inl t) = absurd (fit_setup texts.setup s.0 s.1 w told.setup s.2 t)
-one_verify_stop texts u w told (inr s) (inr t) =
-    let same : s.0 ≡ t.0 = same_job texts.setup s.0 t.0 told.setup.job s.2.job_is t.2.job_is in
-    one_program_stop texts.program t.0 ProgramFile u w told.program (subst (λ (j : Job). ProgramStops texts.program j ProgramFile u) same s.3) t.3
-
-one_judged : OneVerdict → (texts : Texts) (j q : Job) (p o : List Tri) (m n : List Move) (v w : Verdict) → AreTold texts → Judges texts j p m v → Judges texts q o n w → judged j p m v ≡ judged q o n w
-one_judged one texts j q p o m n v w told h k =
-    let e : j ≡ q = same_job texts.setup j q told.setup.job h.all_read.setup_is.job_is k.all_read.setup_is.job_is in
-    let f : p ≡ o = same_part texts.setup q p o told.setup.part (subst (λ (x : Job). ReadsPart texts.setup x p) e h.all_read.setup_is.part_is) k.all_read.setup_is.part_is in
-    let g : m ≡ n = same_moves texts q m n told.program (subst (λ (x : Job). ReadsProgram texts x m) e h.all_read.moves_are) k.all_read.moves_are in
-    let same : v ≡ w = one q o n v w (judged_is texts q j o p n m v told k.all_read h) k.is in
-    λ i. judged (e i) (f i) (g i) (same i)
+-- a judgment, as an answer
+abbrev answer_of : Judgment → Answer
+answer_of (unfit_files u) = unfit u
+answer_of (judged_program j p m v) = judged j p m v
 
 -- what the answers of `verify` are
 abbrev VerifyAnswers : Texts → Answer → Type 0
-VerifyAnswers texts a =
-    ((u : Unfit) × (a ≡ unfit u) × IsUnfitProgram texts u)
-    ⊎ ((j : Job) × (p : List Tri) × (m : List Move) × (v : Verdict) × (a ≡ judged j p m v) × Judges texts j p m v)
+VerifyAnswers texts a = (judgment : Judgment) × (a ≡ answer_of judgment) × IsJudgment texts judgment
 
 verify_answer : (contents : List ℕ → Option (List ℕ)) (job part program : List ℕ) (workers : ℕ) (a : Answer) → IsAnswer contents (verify job part program workers) a
     → VerifyAnswers (texts_of contents (record { job = job; part = part; program = program })) a
 verify_answer contents job part program workers (refused_word coordinate fault) h = absurd h
-verify_answer contents job part program workers (unfit u) h = inl (u, refl, h)
-verify_answer contents job part program workers (judged j p m v) h = inr (j, p, m, v, refl, h)
+verify_answer contents job part program workers (unfit u) h = (unfit_files u, refl, h)
+verify_answer contents job part program workers (judged j p m v) h = (judged_program j p m v, refl, h)
 verify_answer contents job part program workers (planned j p name answer) h = absurd h
 verify_answer contents job part program workers (dropped unit height) h = absurd h
 verify_answer contents job part program workers (leveled unit answer) h = absurd h
@@ -254,26 +76,22 @@ verify_answer contents job part program workers (stocked j m name answer) h = ab
 verify_answer contents job part program workers (judged_files j p ss fs v) h = absurd h
 verify_answer contents job part program workers (sampled size answer) h = absurd h
 
-one_verify : OneVerdict → (texts : Texts) (a b : Answer) → AreTold texts → VerifyAnswers texts a → VerifyAnswers texts b → a ≡ b
-one_verify one texts a b told (inl s) (inl t) =
-    s.1 ∙ ap unfit (one_verify_stop texts s.0 t.0 told (verify_stop texts s.0 s.2) (verify_stop texts t.0 t.2)) ∙ sym t.1
-one_verify one texts a b told (inl s) (inr t) = absurd (fit_program texts t.0 t.1 t.2 s.0 told t.5.all_read s.2)
-one_verify one texts a b told (inr s) (inl t) = absurd (fit_program texts s.0 s.1 s.2 t.0 told s.5.all_read t.2)
-one_verify one texts a b told (inr s) (inr t) = s.4 ∙ one_judged one texts s.0 t.0 s.1 t.1 s.2 t.2 s.3 t.3 told s.5 t.5 ∙ sym t.4
+one_verify : OneJudgment → (texts : Texts) (a b : Answer) → AreTold texts → VerifyAnswers texts a → VerifyAnswers texts b → a ≡ b
+one_verify one texts a b told s t = s.1 ∙ ap answer_of (one texts s.0 t.0 told s.2 t.2) ∙ sym t.1
 
 -- ---- `plan`
 
-one_planned : OnePlanAnswer → (texts : SetupTexts) (j q : Job) (p o : List Tri) (name : List ℕ) (answer next : PlanAnswer) → AreSetupTold texts → Plans texts j p answer → Plans texts q o next
+one_planned : OnePlanAnswer → (texts : SetupTexts) (j q : JobFields) (p o : List Tri) (name : List ℕ) (answer next : PlanAnswer) → AreSetupTold texts → Plans texts j p answer → Plans texts q o next
     → planned j p name answer ≡ planned q o name next
 one_planned one texts j q p o name answer next told h k =
     let e : j ≡ q = same_job texts j q told.job h.setup_is.job_is k.setup_is.job_is in
-    let f : p ≡ o = same_part texts q p o told.part (subst (λ (x : Job). ReadsPart texts x p) e h.setup_is.part_is) k.setup_is.part_is in
-    let is : IsPlanAnswer q o answer = subst (λ (x : List Tri). IsPlanAnswer q x answer) f (subst (λ (x : Job). IsPlanAnswer x p answer) e h.is) in
+    let f : p ≡ o = same_part texts q p o told.part (subst (λ (x : JobFields). ReadsPart texts x p) e h.setup_is.part_is) k.setup_is.part_is in
+    let is : IsPlanAnswer q o answer = subst (λ (x : List Tri). IsPlanAnswer q x answer) f (subst (λ (x : JobFields). IsPlanAnswer x p answer) e h.is) in
     let same : answer ≡ next = one q o answer next is k.is in
     λ i. planned (e i) (f i) name (same i)
 
 abbrev PlanAnswers : SetupTexts → List ℕ → Answer → Type 0
-PlanAnswers texts out a = ((u : Unfit) × (a ≡ unfit u) × IsUnfit texts u) ⊎ ((j : Job) × (p : List Tri) × (answer : PlanAnswer) × (a ≡ planned j p out answer) × Plans texts j p answer)
+PlanAnswers texts out a = ((u : Unfit) × (a ≡ unfit u) × IsUnfit texts u) ⊎ ((j : JobFields) × (p : List Tri) × (answer : PlanAnswer) × (a ≡ planned j p out answer) × Plans texts j p answer)
 
 plan_answer : (contents : List ℕ → Option (List ℕ)) (job part out : List ℕ) (workers : ℕ) (a : Answer) → IsAnswer contents (plan job part out workers) a → PlanAnswers (setup_texts contents job part) out a
 plan_answer contents job part out workers (refused_word coordinate fault) h = absurd h
@@ -339,10 +157,10 @@ drop_answer contents job part x y (sampled size answer) h = absurd h
 
 module _ (texts : SetupTexts) (told : AreSetupTold texts) (x y : List ℕ) where
   -- a word that is refused
-  place_stops : (c : Coordinate) (f : DecFault) (place : Place) (job : Job) → RefusesPlace texts x y c f → ReadsJob texts job → ReadsPlace job.unit x y place → ⊥
+  place_stops : (c : Coordinate) (f : DecFault) (place : Place) (job : JobFields) → RefusesPlace texts x y c f → ReadsJob texts job → ReadsPlace job.unit x y place → ⊥
   place_stops c f place job h r read =
       let same : h.job ≡ job = same_job texts h.job job told.job h.job_is r in
-      reads_word job.unit x y place c f read (subst (λ (j : Job). RefusesWord j.unit x y c f) same h.refused)
+      reads_word job.unit x y place c f read (subst (λ (j : JobFields). RefusesWord j.unit x y c f) same h.refused)
 
   word_or_file : (c : Coordinate) (f : DecFault) (u : Unfit) → RefusesPlace texts x y c f → StopsWith (HasPlace texts x y) texts u → ⊥
   word_or_file c f u h (inl s) = job_goes_on texts.job h.job u told.job h.job_is s
@@ -351,21 +169,21 @@ module _ (texts : SetupTexts) (told : AreSetupTold texts) (x y : List ℕ) where
   one_refused_place : (c d : Coordinate) (f g : DecFault) → RefusesPlace texts x y c f → RefusesPlace texts x y d g → refused_word c f ≡ refused_word d g
   one_refused_place c d f g h k =
       let same : h.job ≡ k.job = same_job texts h.job k.job told.job h.job_is k.job_is in
-      one_word k.job.unit x y c d f g (subst (λ (j : Job). RefusesWord j.unit x y c f) same h.refused) k.refused
+      one_word k.job.unit x y c d f g (subst (λ (j : JobFields). RefusesWord j.unit x y c f) same h.refused) k.refused
 
   one_dropped : (unit other : LengthUnit) (z w : ℤ) → Drops x y texts unit z → Drops x y texts other w → dropped unit z ≡ dropped other w
   one_dropped unit other z w h k =
       let e : h.job ≡ k.job = same_job texts h.job k.job told.job h.setup_is.job_is k.setup_is.job_is in
-      let f : h.part ≡ k.part = same_part texts k.job h.part k.part told.part (subst (λ (j : Job). ReadsPart texts j h.part) e h.setup_is.part_is) k.setup_is.part_is in
-      let place : ReadsPlace k.job.unit x y h.place = subst (λ (j : Job). ReadsPlace j.unit x y h.place) e h.place_is in
+      let f : h.part ≡ k.part = same_part texts k.job h.part k.part told.part (subst (λ (j : JobFields). ReadsPart texts j h.part) e h.setup_is.part_is) k.setup_is.part_is in
+      let place : ReadsPlace k.job.unit x y h.place = subst (λ (j : JobFields). ReadsPlace j.unit x y h.place) e h.place_is in
       let px : h.place.x ≡ k.place.x = ok_is h.place.x k.place.x (sym place.x_is ∙ k.place_is.x_is) in
       let py : h.place.y ≡ k.place.y = ok_is h.place.y k.place.y (sym place.y_is ∙ k.place_is.y_is) in
       let is : IsDropHeight (tool_of k.job) k.part k.place.x k.place.y k.job.floor z =
       subst (λ (v : ℤ). IsDropHeight (tool_of k.job) k.part k.place.x v k.job.floor z) py
       (subst (λ (v : ℤ). IsDropHeight (tool_of k.job) k.part v h.place.y k.job.floor z) px
       (subst (λ (p : List Tri). IsDropHeight (tool_of k.job) p h.place.x h.place.y k.job.floor z) f
-      (subst (λ (j : Job). IsDropHeight (tool_of j) h.part h.place.x h.place.y j.floor z) e h.is))) in
-      let u : unit ≡ other = h.unit_is ∙ ap (λ (j : Job). j.unit) e ∙ sym k.unit_is in
+      (subst (λ (j : JobFields). IsDropHeight (tool_of j) h.part h.place.x h.place.y j.floor z) e h.is))) in
+      let u : unit ≡ other = h.unit_is ∙ ap (λ (j : JobFields). j.unit) e ∙ sym k.unit_is in
       let same : z ≡ w = one_height (tool_of k.job) k.part k.place.x k.place.y k.job.floor z w is k.is in
       λ i. dropped (u i) (same i)
 
@@ -405,23 +223,23 @@ level_answer contents job part z (stocked j m name answer) h = absurd h
 level_answer contents job part z (judged_files j p ss fs v) h = absurd h
 level_answer contents job part z (sampled size answer) h = absurd h
 
-few_or_many : (job : Job) (nodes : ℕ) → node_count (finish_lattice job) ≤ MAX_NODES → HasManyNodes (finish_lattice job) nodes → ⊥
+few_or_many : (job : JobFields) (nodes : ℕ) → node_count (finish_lattice job) ≤ MAX_NODES → HasManyNodes (finish_lattice job) nodes → ⊥
 few_or_many job nodes few many = over nodes (node_count (finish_lattice job)) MAX_NODES many.count many.many few
   where
     over : (n m most : ℕ) → n ≡ m → most < n → m ≤ most → ⊥
     over n m most e lt le = omega (e, lt, le, arith)
 
-one_level_answer : OneWaterline → (job : Job) (part : List Tri) (height : ℤ) (a b : LevelAnswer) → IsLevelAnswer job part height a → IsLevelAnswer job part height b → a ≡ b
+one_level_answer : OneWaterline → (job : JobFields) (part : List Tri) (height : ℤ) (a b : LevelAnswer) → IsLevelAnswer job part height a → IsLevelAnswer job part height b → a ≡ b
 one_level_answer one job part height (outlines f) (outlines g) h k = ap outlines (one (tool_of job) part height (finish_lattice job) f g h.0 k.0)
 one_level_answer one job part height (outlines f) (too_many_nodes n) h k = absurd (few_or_many job n h.1 k)
 one_level_answer one job part height (too_many_nodes n) (outlines g) h k = absurd (few_or_many job n k.1 h)
 one_level_answer one job part height (too_many_nodes n) (too_many_nodes m) h k = ap too_many_nodes (h.count ∙ sym k.count)
 
 module _ (texts : SetupTexts) (told : AreSetupTold texts) (z : List ℕ) where
-  height_stops : (c : Coordinate) (f : DecFault) (height : ℤ) (job : Job) → RefusesHeight texts z c f → ReadsJob texts job → ReadsHeight job.unit z height → ⊥
+  height_stops : (c : Coordinate) (f : DecFault) (height : ℤ) (job : JobFields) → RefusesHeight texts z c f → ReadsJob texts job → ReadsHeight job.unit z height → ⊥
   height_stops c f height job h r read =
       let same : h.job ≡ job = same_job texts h.job job told.job h.job_is r in
-      reads_height job.unit z height c f read (subst (λ (j : Job). RefusesZ j.unit z c f) same h.refused)
+      reads_height job.unit z height c f read (subst (λ (j : JobFields). RefusesZ j.unit z c f) same h.refused)
 
   height_or_file : (c : Coordinate) (f : DecFault) (u : Unfit) → RefusesHeight texts z c f → StopsWith (HasHeight texts z) texts u → ⊥
   height_or_file c f u h (inl s) = job_goes_on texts.job h.job u told.job h.job_is s
@@ -430,18 +248,18 @@ module _ (texts : SetupTexts) (told : AreSetupTold texts) (z : List ℕ) where
   one_refused_height : (c d : Coordinate) (f g : DecFault) → RefusesHeight texts z c f → RefusesHeight texts z d g → refused_word c f ≡ refused_word d g
   one_refused_height c d f g h k =
       let same : h.job ≡ k.job = same_job texts h.job k.job told.job h.job_is k.job_is in
-      one_height_word k.job.unit z c d f g (subst (λ (j : Job). RefusesZ j.unit z c f) same h.refused) k.refused
+      one_height_word k.job.unit z c d f g (subst (λ (j : JobFields). RefusesZ j.unit z c f) same h.refused) k.refused
 
   one_leveled : OneWaterline → (unit other : LengthUnit) (answer next : LevelAnswer) → Levels z texts unit answer → Levels z texts other next → leveled unit answer ≡ leveled other next
   one_leveled one unit other answer next h k =
       let e : h.job ≡ k.job = same_job texts h.job k.job told.job h.setup_is.job_is k.setup_is.job_is in
-      let f : h.part ≡ k.part = same_part texts k.job h.part k.part told.part (subst (λ (j : Job). ReadsPart texts j h.part) e h.setup_is.part_is) k.setup_is.part_is in
-      let read : ReadsHeight k.job.unit z h.height = subst (λ (j : Job). ReadsHeight j.unit z h.height) e h.height_is in
+      let f : h.part ≡ k.part = same_part texts k.job h.part k.part told.part (subst (λ (j : JobFields). ReadsPart texts j h.part) e h.setup_is.part_is) k.setup_is.part_is in
+      let read : ReadsHeight k.job.unit z h.height = subst (λ (j : JobFields). ReadsHeight j.unit z h.height) e h.height_is in
       let g : h.height ≡ k.height = ok_is h.height k.height (sym read ∙ k.height_is) in
       let is : IsLevelAnswer k.job k.part k.height answer =
       subst (λ (v : ℤ). IsLevelAnswer k.job k.part v answer) g
-      (subst (λ (p : List Tri). IsLevelAnswer k.job p h.height answer) f (subst (λ (j : Job). IsLevelAnswer j h.part h.height answer) e h.is)) in
-      let u : unit ≡ other = h.unit_is ∙ ap (λ (j : Job). j.unit) e ∙ sym k.unit_is in
+      (subst (λ (p : List Tri). IsLevelAnswer k.job p h.height answer) f (subst (λ (j : JobFields). IsLevelAnswer j h.part h.height answer) e h.is)) in
+      let u : unit ≡ other = h.unit_is ∙ ap (λ (j : JobFields). j.unit) e ∙ sym k.unit_is in
       let same : answer ≡ next = one_level_answer one k.job k.part k.height answer next is k.is in
       λ i. leveled (u i) (same i)
 
@@ -459,7 +277,7 @@ module _ (texts : SetupTexts) (told : AreSetupTold texts) (z : List ℕ) where
 -- ---- `stock`
 
 abbrev StockStops : StockTexts → Unfit → Type 0
-StockStops texts u = JobStops texts.job u ⊎ ((job : Job) × ReadsStockJob texts job × ProgramStops texts.program job ProgramFile u)
+StockStops texts u = JobStops texts.job u ⊎ ((job : JobFields) × ReadsStockJob texts job × ProgramStops texts.program job ProgramFile u)
 
 stock_stop : (texts : StockTexts) (u : Unfit) → IsUnfitStock texts u → StockStops texts u
 stock_stop texts (TooLong JobFile) h = inl (inl (refl, h))
@@ -483,15 +301,15 @@ one_stock_stop texts u w told (inl s) (inr t) = absurd (job_goes_on texts.job t.
 one_stock_stop texts u w told (inr s) (inl t) = absurd (job_goes_on texts.job s.0 w told.job s.1 t)
 one_stock_stop texts u w told (inr s) (inr t) =
     let same : s.0 ≡ t.0 = same_stock_job texts s.0 t.0 told.job s.1 t.1 in
-    one_program_stop texts.program t.0 ProgramFile u w told.program (subst (λ (j : Job). ProgramStops texts.program j ProgramFile u) same s.2) t.2
+    one_program_stop texts.program t.0 ProgramFile u w told.program (subst (λ (j : JobFields). ProgramStops texts.program j ProgramFile u) same s.2) t.2
 
-drawn_or_many : (job : Job) (moves : List Move) (count many : ℕ) → count ≡ length (stock_surface job moves) → count ≤ MAX_TRIANGLES → HasManyTriangles job many → ⊥
+drawn_or_many : (job : JobFields) (moves : List Move) (count many : ℕ) → count ≡ length (stock_surface job moves) → count ≤ MAX_TRIANGLES → HasManyTriangles job many → ⊥
 drawn_or_many job moves count many is few over = apart count many MAX_TRIANGLES (is ∙ length-surface job (top_point job moves) ∙ sym over.all) few over.many
   where
     apart : (n m most : ℕ) → n ≡ m → n ≤ most → most < m → ⊥
     apart n m most e le lt = omega (e, lt, le, arith)
 
-one_stock_answer : (job : Job) (moves : List Move) (a b : StockAnswer) → IsStockAnswer job moves a → IsStockAnswer job moves b → a ≡ b
+one_stock_answer : (job : JobFields) (moves : List Move) (a b : StockAnswer) → IsStockAnswer job moves a → IsStockAnswer job moves b → a ≡ b
 one_stock_answer job moves (drawn t n) (drawn s m) h k =
     let text : t ≡ s = h.text_is ∙ sym k.text_is in
     let count : n ≡ m = h.count_is ∙ sym k.count_is in
@@ -501,7 +319,7 @@ one_stock_answer job moves (too_many_triangles n) (drawn s m) h k = absurd (draw
 one_stock_answer job moves (too_many_triangles n) (too_many_triangles m) h k = ap too_many_triangles (h.all ∙ sym k.all)
 
 abbrev StockAnswers : StockTexts → List ℕ → Answer → Type 0
-StockAnswers texts out a = ((u : Unfit) × (a ≡ unfit u) × IsUnfitStock texts u) ⊎ ((j : Job) × (m : List Move) × (answer : StockAnswer) × (a ≡ stocked j m out answer) × DrawsStock texts j m answer)
+StockAnswers texts out a = ((u : Unfit) × (a ≡ unfit u) × IsUnfitStock texts u) ⊎ ((j : JobFields) × (m : List Move) × (answer : StockAnswer) × (a ≡ stocked j m out answer) × DrawsStock texts j m answer)
 
 stock_answer : (contents : List ℕ → Option (List ℕ)) (job program out : List ℕ) (a : Answer) → IsAnswer contents (stock job program out) a → StockAnswers (stock_texts contents job program) out a
 stock_answer contents job program out (refused_word coordinate fault) h = absurd h
@@ -514,14 +332,14 @@ stock_answer contents job program out (stocked j m name answer) h = inr (j, m, a
 stock_answer contents job program out (judged_files j p ss fs v) h = absurd h
 stock_answer contents job program out (sampled size answer) h = absurd h
 
-one_drawn : (texts : StockTexts) (out : List ℕ) (j q : Job) (m n : List Move) (a b : StockAnswer) → AreStockTold texts → DrawsStock texts j m a → DrawsStock texts q n b
+one_drawn : (texts : StockTexts) (out : List ℕ) (j q : JobFields) (m n : List Move) (a b : StockAnswer) → AreStockTold texts → DrawsStock texts j m a → DrawsStock texts q n b
     → stocked j m out a ≡ stocked q n out b
 one_drawn texts out j q m n a b told h k =
     let e : j ≡ q = same_stock_job texts j q told.job h.all_read.job_is k.all_read.job_is in
     let both = told_both (λ text. IsProgramText q text m) (λ text. IsProgramText q text n) texts.program told.program
-    (subst (λ (x : Job). IfSome texts.program (λ text. IsProgramText x text m)) e h.all_read.moves_are) k.all_read.moves_are in
+    (subst (λ (x : JobFields). IfSome texts.program (λ text. IsProgramText x text m)) e h.all_read.moves_are) k.all_read.moves_are in
     let f : m ≡ n = program_text q both.0 m n both.1 both.2 in
-    let same : a ≡ b = one_stock_answer q n a b (subst (λ (x : List Move). IsStockAnswer q x a) f (subst (λ (x : Job). IsStockAnswer x m a) e h.is)) k.is in
+    let same : a ≡ b = one_stock_answer q n a b (subst (λ (x : List Move). IsStockAnswer q x a) f (subst (λ (x : JobFields). IsStockAnswer x m a) e h.is)) k.is in
     λ i. stocked (e i) (f i) out (same i)
 
 one_stock : (texts : StockTexts) (out : List ℕ) (a b : Answer) → AreStockTold texts → StockAnswers texts out a → StockAnswers texts out b → a ≡ b
@@ -552,7 +370,7 @@ one_sample one n a b s t = s.1 ∙ ap (sampled n) (one (sample_job n) (sample_pa
 -- ---- `rest`
 
 -- job, part and list are read, and the program of a step stops it
-record StepStops (texts : RestTexts) (job : Job) (steps : List Step) (u : Unfit) : Type 0 where
+record StepStops (texts : RestTexts) (job : JobFields) (steps : List Step) (u : Unfit) : Type 0 where
   k : ℕ
   files : List CutFile
   there : k < length steps
@@ -560,15 +378,15 @@ record StepStops (texts : RestTexts) (job : Job) (steps : List Step) (u : Unfit)
   stops : ProgramStops (texts.programs (step_at steps k).program) job (StepProgram k) u
 
 -- the list's check that fails, or the list is read, and a step stops it
-abbrev ListStops : RestTexts → Job → Unfit → Type 0
+abbrev ListStops : RestTexts → JobFields → Unfit → Type 0
 ListStops texts job u =
     (((u ≡ TooLong ListFile) × IfSome texts.list IsTooLongJob) ⊎ ((fault : JobFault) × (u ≡ ListRefused fault) × IfSome texts.list (λ text. IsRefusedList job text fault)))
     ⊎ ((steps : List Step) × ReadsList texts job steps × StepStops texts job steps u)
 
 abbrev RestStops : RestTexts → Unfit → Type 0
-RestStops texts u = IsUnfit texts.setup u ⊎ ((job : Job) × (part : List Tri) × ReadsSetup texts.setup job part × ListStops texts job u)
+RestStops texts u = IsUnfit texts.setup u ⊎ ((job : JobFields) × (part : List Tri) × ReadsSetup texts.setup job part × ListStops texts job u)
 
-step_stops : (texts : RestTexts) (u : Unfit) (job : Job) (step : Step) (k : ℕ) → (r : ReadsToStep texts job step k) → ProgramStops (texts.programs step.program) job (StepProgram k) u → RestStops texts u
+step_stops : (texts : RestTexts) (u : Unfit) (job : JobFields) (step : Step) (k : ℕ) → (r : ReadsToStep texts job step k) → ProgramStops (texts.programs step.program) job (StepProgram k) u → RestStops texts u
 step_stops texts u job step k r s =
     inr (
       job,
@@ -597,7 +415,7 @@ rest_stop texts (ProgramRefused ProgramFile fault) h = absurd h
 rest_stop texts (ProgramRefused ListFile fault) h = absurd h
 rest_stop texts (ProgramRefused (StepProgram k) fault) h = step_stops texts (ProgramRefused (StepProgram k) fault) h.job h.step k h.before (inr (fault, refl, h.refused))
 
-module _ (texts : RestTexts) (job : Job) (steps : List Step) (all_told : All (λ step. IsSome (texts.programs step.program)) steps) where
+module _ (texts : RestTexts) (job : JobFields) (steps : List Step) (all_told : All (λ step. IsSome (texts.programs step.program)) steps) where
   step_told : (k : ℕ) → k < length steps → IsSome (texts.programs (step_at steps k).program)
   step_told k there = All-get_or (λ x. IsSome (texts.programs x.program)) steps k _ there all_told
 
@@ -633,7 +451,7 @@ module _ (texts : RestTexts) (job : Job) (steps : List Step) (all_told : All (λ
       by (inr ge) (inr le) = same_k (equal s.k t.k le ge)
 
 -- a list that is read doesn't stop it
-list_goes_on : (texts : RestTexts) (job : Job) (steps : List Step) (u : Unfit) → IsSome texts.list → ReadsList texts job steps
+list_goes_on : (texts : RestTexts) (job : JobFields) (steps : List Step) (u : Unfit) → IsSome texts.list → ReadsList texts job steps
     → ((u ≡ TooLong ListFile) × IfSome texts.list IsTooLongJob) ⊎ ((fault : JobFault) × (u ≡ ListRefused fault) × IfSome texts.list (λ text. IsRefusedList job text fault)) → ⊥
 list_goes_on texts job steps u some r (inl s) =
     let both = told_both IsTooLongJob (λ text. IsListText job text steps) texts.list some s.1 r in
@@ -642,7 +460,7 @@ list_goes_on texts job steps u some r (inr s) =
     let both = told_both (λ text. IsRefusedList job text s.0) (λ text. IsListText job text steps) texts.list some s.2 r in
     no_list_text job both.0 steps s.0 both.2 both.1
 
-one_list_stop : (texts : RestTexts) (job : Job) (u w : Unfit) → IsListTold texts → ReadsJob texts.setup job → ListStops texts job u → ListStops texts job w → u ≡ w
+one_list_stop : (texts : RestTexts) (job : JobFields) (u w : Unfit) → IsListTold texts → ReadsJob texts.setup job → ListStops texts job u → ListStops texts job w → u ≡ w
 one_list_stop texts job u w told read (inl (inl s)) (inl (inl t)) = s.0 ∙ sym t.0
 one_list_stop texts job u w told read (inl (inl s)) (inl (inr t)) =
     let both = told_both IsTooLongJob (λ text. IsRefusedList job text t.0) texts.list told.list s.1 t.2 in
@@ -665,19 +483,19 @@ one_rest_stop texts u w told (inl s) (inr t) = absurd (fit_setup texts.setup t.0
 one_rest_stop texts u w told (inr s) (inl t) = absurd (fit_setup texts.setup s.0 s.1 w told.setup s.2 t)
 one_rest_stop texts u w told (inr s) (inr t) =
     let same : s.0 ≡ t.0 = same_job texts.setup s.0 t.0 told.setup.job s.2.job_is t.2.job_is in
-    one_list_stop texts t.0 u w told t.2.job_is (subst (λ (j : Job). ListStops texts j u) same s.3) t.3
+    one_list_stop texts t.0 u w told t.2.job_is (subst (λ (j : JobFields). ListStops texts j u) same s.3) t.3
 
-rest_told : (texts : RestTexts) (job : Job) (part : List Tri) (steps : List Step) (files : List CutFile) → IsListTold texts → ReadsRest texts job part steps files → AreRestTold texts steps
+rest_told : (texts : RestTexts) (job : JobFields) (part : List Tri) (steps : List Step) (files : List CutFile) → IsListTold texts → ReadsRest texts job part steps files → AreRestTold texts steps
 rest_told texts job part steps files told r = record { setup = told.setup; list = told.list; programs = told.programs job steps r.setup_is.job_is r.list_is }
 
-one_judged_list : OneListVerdict → (texts : RestTexts) (j q : Job) (p o : List Tri) (xs ys : List Step) (m n : List CutFile) (v w : ListVerdict) → IsListTold texts → JudgesFiles texts j p xs m v
+one_judged_list : OneListVerdict → (texts : RestTexts) (j q : JobFields) (p o : List Tri) (xs ys : List Step) (m n : List CutFile) (v w : ListVerdict) → IsListTold texts → JudgesFiles texts j p xs m v
     → JudgesFiles texts q o ys n w → judged_files j p xs m v ≡ judged_files q o ys n w
 one_judged_list one texts j q p o xs ys m n v w told h k =
     let all = rest_told texts q o ys n told k.all_read in
     let e : j ≡ q = same_job texts.setup j q told.setup.job h.all_read.setup_is.job_is k.all_read.setup_is.job_is in
-    let f : p ≡ o = same_part texts.setup q p o told.setup.part (subst (λ (x : Job). ReadsPart texts.setup x p) e h.all_read.setup_is.part_is) k.all_read.setup_is.part_is in
-    let list : xs ≡ ys = same_steps texts q xs ys told.list (subst (λ (x : Job). ReadsList texts x xs) e h.all_read.list_is) k.all_read.list_is in
-    let here : ReadsSteps texts.programs q ys m = subst (λ (x : List Step). ReadsSteps texts.programs q x m) list (subst (λ (x : Job). ReadsSteps texts.programs x xs m) e h.all_read.files_are) in
+    let f : p ≡ o = same_part texts.setup q p o told.setup.part (subst (λ (x : JobFields). ReadsPart texts.setup x p) e h.all_read.setup_is.part_is) k.all_read.setup_is.part_is in
+    let list : xs ≡ ys = same_steps texts q xs ys told.list (subst (λ (x : JobFields). ReadsList texts x xs) e h.all_read.list_is) k.all_read.list_is in
+    let here : ReadsSteps texts.programs q ys m = subst (λ (x : List Step). ReadsSteps texts.programs q x m) list (subst (λ (x : JobFields). ReadsSteps texts.programs x xs m) e h.all_read.files_are) in
     let g : m ≡ n = same_files texts.programs q ys m n all.programs here k.all_read.files_are in
     let same : v ≡ w = one q o n v w (judged_list_is texts q j o p ys xs n m v all k.all_read h) k.is in
     λ i. judged_files (e i) (f i) (list i) (g i) (same i)
@@ -685,7 +503,7 @@ one_judged_list one texts j q p o xs ys m n v w told h k =
 abbrev RestAnswers : RestTexts → Answer → Type 0
 RestAnswers texts a =
     ((u : Unfit) × (a ≡ unfit u) × IsUnfitRest texts u)
-    ⊎ ((j : Job) × (p : List Tri) × (ss : List Step) × (fs : List CutFile) × (v : ListVerdict) × (a ≡ judged_files j p ss fs v) × JudgesFiles texts j p ss fs v)
+    ⊎ ((j : JobFields) × (p : List Tri) × (ss : List Step) × (fs : List CutFile) × (v : ListVerdict) × (a ≡ judged_files j p ss fs v) × JudgesFiles texts j p ss fs v)
 
 rest_answer : (contents : List ℕ → Option (List ℕ)) (job part list : List ℕ) (workers : ℕ) (a : Answer) → IsAnswer contents (rest job part list workers) a
     → RestAnswers (rest_texts contents (record { job = job; part = part; list = list })) a
@@ -711,18 +529,18 @@ one_rest one texts a b told (inr s) (inr t) = s.5 ∙ one_judged_list one texts 
 
 -- ---- all commands
 
-pub one_answer_of : OneVerdict → OneListVerdict → OnePlanAnswer → OneWaterline → OneAnswer
-one_answer_of verdict list_verdict plan_law waterline contents (verify job part program workers) a b told h k =
-    one_verify verdict _ a b told (verify_answer contents job part program workers a h) (verify_answer contents job part program workers b k)
-one_answer_of verdict list_verdict plan_law waterline contents (plan job part out workers) a b told h k =
+pub one_answer_of : OneJudgment → OneListVerdict → OnePlanAnswer → OneWaterline → OneAnswer
+one_answer_of judgment list_verdict plan_law waterline contents (verify job part program workers) a b told h k =
+    one_verify judgment _ a b told (verify_answer contents job part program workers a h) (verify_answer contents job part program workers b k)
+one_answer_of judgment list_verdict plan_law waterline contents (plan job part out workers) a b told h k =
     one_plan plan_law _ out a b told (plan_answer contents job part out workers a h) (plan_answer contents job part out workers b k)
-one_answer_of verdict list_verdict plan_law waterline contents (drop job part x y) a b told h k =
+one_answer_of judgment list_verdict plan_law waterline contents (drop job part x y) a b told h k =
     one_drop _ told x y a b (drop_answer contents job part x y a h) (drop_answer contents job part x y b k)
-one_answer_of verdict list_verdict plan_law waterline contents (level job part z) a b told h k =
+one_answer_of judgment list_verdict plan_law waterline contents (level job part z) a b told h k =
     one_level _ told z waterline a b (level_answer contents job part z a h) (level_answer contents job part z b k)
-one_answer_of verdict list_verdict plan_law waterline contents (stock job program out) a b told h k =
+one_answer_of judgment list_verdict plan_law waterline contents (stock job program out) a b told h k =
     one_stock _ out a b told (stock_answer contents job program out a h) (stock_answer contents job program out b k)
-one_answer_of verdict list_verdict plan_law waterline contents (rest job part list workers) a b told h k =
+one_answer_of judgment list_verdict plan_law waterline contents (rest job part list workers) a b told h k =
     one_rest list_verdict _ a b told (rest_answer contents job part list workers a h) (rest_answer contents job part list workers b k)
-one_answer_of verdict list_verdict plan_law waterline contents (sample n workers) a b told h k =
+one_answer_of judgment list_verdict plan_law waterline contents (sample n workers) a b told h k =
     one_sample plan_law n a b (sample_answer contents n workers a h) (sample_answer contents n workers b k)

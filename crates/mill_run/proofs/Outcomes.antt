@@ -6,13 +6,14 @@ use Rattle.mill_verify.specs.declared.list.ListVerdict.TheVariants as list
 use Rattle.mill_verify.specs.declared.verdict.Verdict.{Verdict}
 use Rattle.mill_verify.specs.declared.verdict.Verdict.TheVariants.{Accept, Reject}
 use Rattle.mill_run.specs.Answers.{answer_status}
-use Rattle.mill_run.specs.Calls.{Call, HoldsReads, NoFault}
+use Rattle.mill_answer.specs.Calls.{Call, HoldsReads, NoFault}
 use Rattle.mill_run.specs.Headline.{Answered, Answers, Completes, Untaken}
 use Rattle.mill_run.specs.Outcomes.{Outcome, help, bad_words, no_memory, read_fault, answered, outcome_status, IsOutcomeOf, ShowsHelp, RefusesWords, ShowsWhole, HasOutcome}
 use Rattle.mill_run.specs.Rest.{list_status}
-use Rattle.mill_run.specs.Verify.{verdict_status}
+use Rattle.mill_answer.specs.Verify.{verdict_status}
 use Rattle.mill_run.proofs.Answering.{is_judged, is_planned, is_dropped, is_leveled, is_stocked, is_judged_in_turn, is_sampled}
-use Rattle.mill_run.proofs.Blaming.{no, on, answer_not_2, not_6, not_7, shown_whole}
+use Rattle.mill_answer.proofs.Counts.{no, on}
+use Rattle.mill_run.proofs.Blaming.{answer_not_2, not_6, not_7, shown_whole}
 use Rattle.mill_run.proofs.Taken.{not_taken, asked_outcome}
 
 -- ---- words that are taken

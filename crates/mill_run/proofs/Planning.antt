@@ -10,7 +10,7 @@ use Rattle.mill_load.specs.declared.load.LoadFault.{LoadFault}
 use Rattle.mill_load.specs.declared.load.LoadFault.TheVariants as load_fault
 use Rattle.mill_load.specs.declared.load.Setup.{Setup}
 use Rattle.mill_run.specs.Answers.{planned}
-use Rattle.mill_run.specs.Calls.{Call, HoldsReads}
+use Rattle.mill_answer.specs.Calls.{Call, HoldsReads}
 use Rattle.mill_load.specs.Loads.{IsSetup, LoadsSetup, OnlyLoads}
 use Rattle.mill_run.specs.Outcomes.{answered, IsOutcome, ShowsOr, Serves}
 use Rattle.mill_run.specs.inner.Prints.{PrintsPlanFault, ShowsPlanOr, fault_outcome}
@@ -29,8 +29,8 @@ plan_serves job part name workers call store s read ready loads logged shown = w
 
     whole : ShowsPlanOr s name (from call (record call.store { log = store.log })) → Serves (plan job part name workers) call
     whole (inl p) =
-        answer_serves (plan job part name workers) call (planned s.job s.part name p.answer)
-        (λ contents holds. (refl, record { setup_is = read contents (holds_before contents call store logged holds); job_ok = ready.job_ok; is = p.is })) own
+        answer_serves (plan job part name workers) call (planned s.job.fields s.part name p.answer)
+        (λ contents holds. (refl, record { setup_is = read contents (holds_before contents call store logged holds); job_ok = s.job.is_job; is = p.is })) own
         (inl (logged_anyhow call store.log _ p.shows))
     whole (inr m) = short_serves (plan job part name workers) call own (logged_anyhow call store.log _ m)
 
@@ -41,19 +41,19 @@ plan_load_fault contents job part name workers (load_fault.ReadFault file) h = h
 plan_load_fault contents job part name workers (load_fault.Unfit fault) h = h
 
 -- the answer is shown
-pub made_shows : (s : Setup) (name : List ℕ) (call : Call) (a : PlanAnswer) → IsPlanAnswer s.job s.part a → ShowsOr (answered (planned s.job s.part name a)) call → ShowsPlanOr s name call
+pub made_shows : (s : Setup) (name : List ℕ) (call : Call) (a : PlanAnswer) → IsPlanAnswer s.job.fields s.part a → ShowsOr (answered (planned s.job.fields s.part name a)) call → ShowsPlanOr s name call
 made_shows s name call a is (inl shown) = inl (record { answer = a; is = is; shows = shown })
 made_shows s name call a is (inr m) = inr m
 
 -- there is no program, and that is printed
-pub fault_shows : (s : Setup) (name : List ℕ) (call : Call) (f : PlanFault) → IsPlanFault s.job s.part f → call.store_after ≡ call.store
-    → PrintsPlanFault s.job.unit f call.status call.sink call.sink_after → ShowsPlanOr s name call
+pub fault_shows : (s : Setup) (name : List ℕ) (call : Call) (f : PlanFault) → IsPlanFault s.job.fields s.part f → call.store_after ≡ call.store
+    → PrintsPlanFault s.job.fields.unit f call.status call.sink call.sink_after → ShowsPlanOr s name call
 fault_shows s name call (plan_fault.TooManyNodes nodes) is same p =
-    made_shows s name call (too_many_nodes nodes) is (answer_shows call (planned s.job s.part name (too_many_nodes nodes)) refl (untouched call same) (unread call same) p)
+    made_shows s name call (too_many_nodes nodes) is (answer_shows call (planned s.job.fields s.part name (too_many_nodes nodes)) refl (untouched call same) (unread call same) p)
 fault_shows s name call plan_fault.TooManyMoves is same p =
-    made_shows s name call too_many_moves is (answer_shows call (planned s.job s.part name too_many_moves) refl (untouched call same) (unread call same) p)
+    made_shows s name call too_many_moves is (answer_shows call (planned s.job.fields s.part name too_many_moves) refl (untouched call same) (unread call same) p)
 fault_shows s name call (plan_fault.Uncut row col top) is same p =
-    made_shows s name call (uncut row col top) is (answer_shows call (planned s.job s.part name (uncut row col top)) refl (untouched call same) (unread call same) p)
+    made_shows s name call (uncut row col top) is (answer_shows call (planned s.job.fields s.part name (uncut row col top)) refl (untouched call same) (unread call same) p)
 fault_shows s name call (plan_fault.Held number row col) is same p =
-    made_shows s name call (held number row col) is (answer_shows call (planned s.job s.part name (held number row col)) refl (untouched call same) (unread call same) p)
+    made_shows s name call (held number row col) is (answer_shows call (planned s.job.fields s.part name (held number row col)) refl (untouched call same) (unread call same) p)
 fault_shows s name call plan_fault.WantOfMemory is same p = inr (short_shows call same p)

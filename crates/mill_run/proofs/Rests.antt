@@ -6,9 +6,10 @@ use Rattle.std.specs.Global.{Vec}
 use Rattle.mill_base.specs.declared.points.Tri.{Tri}
 use Rattle.mill_command.specs.Requests.{rest}
 use Rattle.mill_io.specs.Readings.{Reading}
-use Rattle.mill_job.specs.declared.job.Job.{Job}
-use Rattle.mill_list.specs.declared.step.Step.{Step}
-use Rattle.mill_verify.specs.Files.{File as CutFile}
+use Rattle.mill_job.specs.declared.fields.JobFields.{JobFields}
+use Rattle.mill_job.specs.declared.step.Step.{Step}
+use Rattle.mill_base.specs.declared.motion.Move.{Move}
+use Rattle.mill_verify.specs.Files.{File as CutFile, file_at}
 use Rattle.mill_load.specs.declared.file.File.{File}
 use Rattle.mill_load.specs.declared.file.File.TheVariants.{Job as JobFile, Part as PartFile, Program as ProgramFile, List as ListFile, StepProgram}
 use Rattle.mill_load.specs.declared.load.LoadFault.{LoadFault}
@@ -16,7 +17,7 @@ use Rattle.mill_load.specs.declared.load.LoadFault.TheVariants.{Memory, ReadFaul
 use Rattle.mill_load.specs.declared.load.Unfit.TheVariants.{TooLong, JobRefused, PartRefused, ListRefused, ProgramRefused, PartTop}
 use Rattle.mill_run.specs.declared.rest.Listed.{Listed}
 use Rattle.mill_run.specs.Answers.{judged_files}
-use Rattle.mill_run.specs.Calls.{Call, HoldsReads}
+use Rattle.mill_answer.specs.Calls.{Call, HoldsReads}
 use Rattle.mill_run.specs.inner.Loads.{AreFilesReady, FailsInRest, LoadsFiles, LoadsList, StopsAtStep, rest_name}
 use Rattle.mill_load.specs.Loads.{LoadsProgram, LoadsSetup, NamesFault, OnlyLoads, ReadsFile}
 use Rattle.mill_run.specs.inner.Prints.{TriesListVerdict, fault_outcome}
@@ -29,7 +30,7 @@ use Rattle.mill_run.proofs.Serving.{answer_serves, answer_shows, printed_shows, 
 -- ---- the list
 
 -- nothing is said of a list that isn't told, but which faults may come
-untold_list : (job : Job) (items : List ℕ) (r : Result (Vec Step) LoadFault) → LoadsList job (Some items) r → LoadsList job None r
+untold_list : (job : JobFields) (items : List ℕ) (r : Result (Vec Step) LoadFault) → LoadsList job (Some items) r → LoadsList job None r
 untold_list job items (Ok steps) h = tt
 untold_list job items (Err Memory) h = tt
 untold_list job items (Err (ReadFault JobFile)) h = h
@@ -49,13 +50,13 @@ untold_list job items (Err (Unfit (ProgramRefused file fault))) h = h
 untold_list job items (Err (Unfit (PartTop height top unit))) h = h
 
 -- the bytes that were read are what is told
-pub list_told : (job : Job) (told : Option (List ℕ)) (items : List ℕ) (r : Result (Vec Step) LoadFault) → IfSome told (λ text. items ≡ text) → LoadsList job (Some items) r
+pub list_told : (job : JobFields) (told : Option (List ℕ)) (items : List ℕ) (r : Result (Vec Step) LoadFault) → IfSome told (λ text. items ≡ text) → LoadsList job (Some items) r
     → LoadsList job told r
 list_told job None items r same h = untold_list job items r h
 list_told job (Some text) items r same h = subst (λ (t : List ℕ). LoadsList job (Some t) r) same h
 
 -- there were no bytes of it
-pub no_list_bytes : (job : Job) (told : Option (List ℕ)) (f : LoadFault) → ReadsFile told ListFile (Err f) → LoadsList job told (Err f)
+pub no_list_bytes : (job : JobFields) (told : Option (List ℕ)) (f : LoadFault) → ReadsFile told ListFile (Err f) → LoadsList job told (Err f)
 no_list_bytes job told Memory h = tt
 no_list_bytes job told (ReadFault file) h = subst (λ (x : File). LoadsList job told (Err (ReadFault x))) (sym h) tt
 no_list_bytes job told (Unfit (TooLong file)) h = subst (λ (x : File). LoadsList job told (Err (Unfit (TooLong x)))) (sym h.0) h.1
@@ -67,7 +68,7 @@ no_list_bytes job told (Unfit (PartTop height top unit)) h = absurd h
 
 -- ---- its programs, in turn
 
-reads_push : (programs : List ℕ → Option (List ℕ)) (job : Job) (steps : List Step) (files : List CutFile) (step : Step) (file : CutFile) → ReadsSteps programs job steps files
+reads_push : (programs : List ℕ → Option (List ℕ)) (job : JobFields) (steps : List Step) (files : List CutFile) (step : Step) (file : CutFile) → ReadsSteps programs job steps files
     → ReadsStep programs job step file → ReadsSteps programs job (steps ++ step ∷ []) (files ++ file ∷ [])
 reads_push programs job [] [] step file r s = (s, tt)
 reads_push programs job [] (f ∷ files) step file r s = absurd r
@@ -75,14 +76,14 @@ reads_push programs job (x ∷ steps) [] step file r s = absurd r
 reads_push programs job (x ∷ steps) (f ∷ files) step file r s = (r.0, reads_push programs job steps files step file r.1 s)
 
 -- there are as many files as steps
-pub as_many : (programs : List ℕ → Option (List ℕ)) (job : Job) (steps : List Step) (files : List CutFile) → ReadsSteps programs job steps files → length files ≡ length steps
+pub as_many : (programs : List ℕ → Option (List ℕ)) (job : JobFields) (steps : List Step) (files : List CutFile) → ReadsSteps programs job steps files → length files ≡ length steps
 as_many programs job [] [] r = refl
 as_many programs job [] (f ∷ files) r = absurd r
 as_many programs job (x ∷ steps) [] r = absurd r
 as_many programs job (x ∷ steps) (f ∷ files) r = ap suc (as_many programs job steps files r.1)
 
 -- step n, as it is taken from the list
-module _ (programs : List ℕ → Option (List ℕ)) (job : Job) (steps : List Step) (files : List CutFile) (n : ℕ) (step : Step) (there : n < length steps) (is : step ≡ slice_index_or steps n step)
+module _ (programs : List ℕ → Option (List ℕ)) (job : JobFields) (steps : List Step) (files : List CutFile) (n : ℕ) (step : Step) (there : n < length steps) (is : step ≡ slice_index_or steps n step)
     (before : ReadsSteps programs job (take n steps) files) where
   -- it is read too
   pub reads_more : (file : CutFile) (new : List CutFile) → new ≡ files ++ file ∷ [] → ReadsStep programs job step file → ReadsSteps programs job (take (n + 1) steps) new
@@ -124,7 +125,7 @@ no_setup texts (Unfit (ProgramRefused file fault)) h = absurd h
 no_setup texts (Unfit (PartTop height top unit)) h = h
 
 -- job and part were read, and there was no list
-pub no_list : (texts : RestTexts) (job : Job) (part : List Tri) (f : LoadFault) → ReadsSetup texts.setup job part → LoadsList job texts.list (Err f) → LoadsFiles texts (Err f)
+pub no_list : (texts : RestTexts) (job : JobFields) (part : List Tri) (f : LoadFault) → ReadsSetup texts.setup job part → LoadsList job texts.list (Err f) → LoadsFiles texts (Err f)
 no_list texts job part Memory r h = tt
 no_list texts job part (ReadFault JobFile) r h = absurd h
 no_list texts job part (ReadFault PartFile) r h = absurd h
@@ -143,7 +144,7 @@ no_list texts job part (Unfit (ProgramRefused file fault)) r h = absurd h
 no_list texts job part (Unfit (PartTop height top unit)) r h = absurd h
 
 -- so was the list, and there was no program of one of its steps
-pub no_step : (texts : RestTexts) (job : Job) (part : List Tri) (steps : List Step) (log : List Reading) (f : LoadFault) → ReadsSetup texts.setup job part → ReadsList texts job steps
+pub no_step : (texts : RestTexts) (job : JobFields) (part : List Tri) (steps : List Step) (log : List Reading) (f : LoadFault) → ReadsSetup texts.setup job part → ReadsList texts job steps
     → StopsAtStep texts.programs job steps log f → LoadsFiles texts (Err f)
 no_step texts job part steps log f r l s = which f s.stops
   where
@@ -178,7 +179,7 @@ setup_failed contents names log (ReadFault (StepProgram k)) told h = absurd told
 setup_failed contents names log (Unfit fault) told h = tt
 
 -- that of the list
-pub list_failed : (contents : List ℕ → Option (List ℕ)) (names : RestFiles) (log : List Reading) (job : Job) (told : Option (List ℕ)) (f : LoadFault) → LoadsList job told (Err f) → NamesFault (rest_name names) log f
+pub list_failed : (contents : List ℕ → Option (List ℕ)) (names : RestFiles) (log : List Reading) (job : JobFields) (told : Option (List ℕ)) (f : LoadFault) → LoadsList job told (Err f) → NamesFault (rest_name names) log f
     → FailsInRest contents names log f
 list_failed contents names log job told Memory is h = tt
 list_failed contents names log job told (ReadFault JobFile) is h = h
@@ -189,7 +190,7 @@ list_failed contents names log job told (ReadFault (StepProgram k)) is h = absur
 list_failed contents names log job told (Unfit fault) is h = tt
 
 -- that of the program of a step
-pub step_failed : (contents : List ℕ → Option (List ℕ)) (names : RestFiles) (job : Job) (part : List Tri) (steps : List Step) (log : List Reading) (f : LoadFault)
+pub step_failed : (contents : List ℕ → Option (List ℕ)) (names : RestFiles) (job : JobFields) (part : List Tri) (steps : List Step) (log : List Reading) (f : LoadFault)
     → ReadsSetup (rest_texts contents names).setup job part → ReadsList (rest_texts contents names) job steps → StopsAtStep contents job steps log f → FailsInRest contents names log f
 step_failed contents names job part steps log f r l s = which f s.stops s.failed
   where
@@ -229,7 +230,11 @@ pub rest_serves : (job part list : List ℕ) (workers : ℕ) (call : Call) (l : 
     → ((contents : List ℕ → Option (List ℕ)) → HoldsReads contents call → LoadsFiles (rest_texts contents (record { job = job; part = part; list = list })) (Ok l)) → AreFilesReady l
     → (let r : Result Listed LoadFault = Ok l in OnlyLoads call.store call.store_after r) → TriesListVerdict l call.status call.sink call.sink_after → Serves (rest job part list workers) call
 rest_serves job part list workers call l read ready loads (inl v) =
-    answer_serves (rest job part list workers) call (judged_files l.job l.part l.steps.items l.files.items v.verdict)
-    (λ contents held. record { all_read = read contents held; job_ok = ready.job_ok; files_ok = ready.files_ok; is = v.is; safe = v.safe; named = v.named }) loads.held
-    (answer_shows call (judged_files l.job l.part l.steps.items l.files.items v.verdict) refl loads.only loads.reads v.printed)
+    answer_serves (rest job part list workers) call (judged_files l.job.fields l.part l.steps.items l.files.items v.verdict)
+    (λ contents held. record { all_read = read contents held; job_ok = l.job.is_job; files_ok = ready.files_ok; is = v.is; safe = v.safe; named = v.named }) loads.held
+    (answer_shows call (judged_files l.job.fields l.part l.steps.items l.files.items v.verdict) refl loads.only loads.reads v.printed)
 rest_serves job part list workers call l read ready loads (inr m) = short_serves (rest job part list workers) call loads.held (printed_shows call no_memory refl loads.only loads.reads m)
+
+-- the moves of the file that is read at a number of a list
+pub moves_at : (files : List CutFile) (f : ℕ) (file : CutFile) (moves : List Move) → f < length files → file ≡ slice_index_or files f file → moves ≡ file.moves → moves ≡ (file_at files f).moves
+moves_at files f file moves there is same = same ∙ ap (λ (x : CutFile). x.moves) (is ∙ get_or_default files f file _ there)

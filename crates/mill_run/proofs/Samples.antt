@@ -8,7 +8,7 @@ use Rattle.mill_base.specs.declared.motion.Move.{Move}
 use Rattle.mill_base.specs.declared.points.Tri.{Tri}
 use Rattle.mill_base.specs.declared.unit.Unit.TheVariants.{Hundredth}
 use Rattle.mill_job.specs.Columns.{home}
-use Rattle.mill_job.specs.declared.job.Job.{Job}
+use Rattle.mill_job.specs.declared.fields.JobFields.{JobFields}
 use Rattle.mill_ngc.specs.Programs.{program_of}
 use Rattle.mill_command.specs.Requests.{sample}
 use Rattle.mill_io.specs.Views.{StoreView, SinkView, ReadsOnly}
@@ -19,11 +19,10 @@ use Rattle.mill_plan.specs.declared.fault.PlanFault.TheVariants as plan_fault
 use Rattle.mill_verify.specs.Verdicts.{IsVerdict, OneVerdict}
 use Rattle.mill_verify.specs.declared.verdict.Verdict.{Verdict}
 use Rattle.mill_verify.specs.declared.verdict.Verdict.TheVariants.{Accept}
-use Rattle.mill_load.specs.declared.load.Setup.{Setup}
 use Rattle.mill_run.specs.Answers.{sampled}
-use Rattle.mill_run.specs.Calls.{Call}
-use Rattle.mill_sample.specs.Sample.{IsSample, sample_part, sample_job}
-use Rattle.mill_load.specs.Prints.{PrintsMade}
+use Rattle.mill_answer.specs.Calls.{Call}
+use Rattle.mill_run.specs.SamplePart.{IsSample, sample_part, sample_job}
+use Rattle.mill_answer.specs.Prints.{PrintsMade}
 use Rattle.mill_run.specs.inner.Prints.{PrintsPlanFault, TriesSample}
 use Rattle.mill_run.specs.Outcomes.{no_memory, Serves}
 use Rattle.mill_run.specs.Sample.{sample_line}
@@ -39,7 +38,7 @@ no_fault r fault e meant =
     cc
 
 -- the verdict on a plan's text, as it reads, is the plan's
-pub plan_verdict : OneVerdict → (job : Job) (part : List Tri) (text : List ℕ) (count columns : ℕ) (left : ℤ) (read : List Move) (r : Result Verdict WantOfMemory)
+pub plan_verdict : OneVerdict → (job : JobFields) (part : List Tri) (text : List ℕ) (count columns : ℕ) (left : ℤ) (read : List Move) (r : Result Verdict WantOfMemory)
     → IsDone job part text count columns left → program_of (home job) job.unit text ≡ Ok read → IfOk r (IsVerdict job part read) → IfOk r (λ v. v ≡ Accept count columns left)
 plan_verdict one job part text count columns left read r made reads verdict =
     let same : read ≡ made.moves = ok_is read made.moves (sym reads ∙ made.reads) in
@@ -47,9 +46,9 @@ plan_verdict one job part text count columns left read r made reads verdict =
     (λ v is. one job part made.moves v (Accept count columns left) (subst (λ (m : List Move). IsVerdict job part m v) same is) made.accepted) verdict
 
 -- there is no program, and that is printed
-pub fault_tries : (n status : ℕ) (sink sink_after : SinkView) (s : Setup) (f : PlanFault) → IsSample n s → IsPlanFault s.job s.part f → PrintsPlanFault Hundredth f status sink sink_after
+pub fault_tries : (n status : ℕ) (sink sink_after : SinkView) (job : JobFields) (part : List Tri) (f : PlanFault) → IsSample n job part → IsPlanFault job part f → PrintsPlanFault Hundredth f status sink sink_after
     → TriesSample n status sink sink_after
-fault_tries n status sink sink_after s f made is printed = go f (subst (λ p. IsPlanFault (sample_job n) p f) made.part_is (subst (λ j. IsPlanFault j s.part f) made.job_is is)) printed
+fault_tries n status sink sink_after job part f made is printed = go f (subst (λ p. IsPlanFault (sample_job n) p f) made.part_is (subst (λ j. IsPlanFault j part f) made.job_is is)) printed
   where
     go : (g : PlanFault) → IsPlanFault (sample_job n) (sample_part n) g → PrintsPlanFault Hundredth g status sink sink_after → TriesSample n status sink sink_after
     go (plan_fault.TooManyNodes nodes) here p = inl (record { answer = too_many_nodes nodes; is = here; printed = p })
@@ -62,14 +61,14 @@ accept_is : (a b d e : ℕ) (x y : ℤ) → Accept a b x ≡ Accept d e y → (a
 accept_is a b d e x y h = (cc, cc, cc)
 
 -- the verdict's numbers are the plan's, and are printed
-pub verdict_tries : (n status : ℕ) (sink sink_after : SinkView) (s : Setup) (planned : Planned) (moves columns : ℕ) (left : ℤ) (line : Result (Vec ℕ) WantOfMemory)
-    → IsSample n s → IsPlanAnswer s.job s.part (answer_of planned) → Accept moves columns left ≡ Accept planned.moves planned.columns planned.most_left
+pub verdict_tries : (n status : ℕ) (sink sink_after : SinkView) (job : JobFields) (part : List Tri) (planned : Planned) (moves columns : ℕ) (left : ℤ) (line : Result (Vec ℕ) WantOfMemory)
+    → IsSample n job part → IsPlanAnswer job part (answer_of planned) → Accept moves columns left ≡ Accept planned.moves planned.columns planned.most_left
     → IfOk line (λ v. v.items ≡ sample_line n (done [] moves columns left)) → PrintsMade line 0 status sink sink_after → TriesSample n status sink sink_after
-verdict_tries n status sink sink_after s planned moves columns left line made is same text printed =
+verdict_tries n status sink sink_after job part planned moves columns left line made is same text printed =
     let numbers = accept_is moves columns planned.moves planned.columns left planned.most_left same in
     inl (record {
       answer = answer_of planned;
-      is = subst (λ (p : List Tri). IsPlanAnswer (sample_job n) p (answer_of planned)) made.part_is (subst (λ (j : Job). IsPlanAnswer j s.part (answer_of planned)) made.job_is is);
+      is = subst (λ (p : List Tri). IsPlanAnswer (sample_job n) p (answer_of planned)) made.part_is (subst (λ (j : JobFields). IsPlanAnswer j part (answer_of planned)) made.job_is is);
       printed = made_prints line (sampled n (answer_of planned)) 0 status sink sink_after refl (IfOk-weaker line _ _ (λ v whole. whole ∙ line_is numbers.0 numbers.1 numbers.2) text) printed;
     })
   where

@@ -11,6 +11,7 @@ use Rattle.mill_io.proofs.Held.{held_none}
 use Rattle.mill_io.specs.Readings.{AreHeld, LastFails, Reading}
 use Rattle.mill_io.specs.Views.{StoreView, SinkView, ReadsOnly}
 use Rattle.mill_base.specs.declared.points.Tri.{Tri}
+use Rattle.mill_job.specs.declared.fields.JobFields.{JobFields}
 use Rattle.mill_job.specs.declared.job.Job.{Job}
 use Rattle.mill_load.specs.declared.file.File.{File}
 use Rattle.mill_load.specs.declared.file.File.TheVariants.{Job as JobFile, Part as PartFile, Program as ProgramFile, List as ListFile, StepProgram}
@@ -19,21 +20,22 @@ use Rattle.mill_load.specs.declared.load.LoadFault.TheVariants as load_fault
 use Rattle.mill_load.specs.declared.load.Unfit.TheVariants.{TooLong, JobRefused, PartRefused, ListRefused, ProgramRefused, PartTop}
 use Rattle.mill_load.specs.declared.load.Setup.{Setup}
 use Rattle.mill_load.specs.declared.place.Coordinate.{Coordinate}
-use Rattle.mill_job.specs.declared.job.Place.{Place}
+use Rattle.mill_job.specs.declared.fields.Place.{Place}
 use Rattle.mill_run.specs.declared.verify.Loaded.{Loaded}
-use Rattle.mill_run.specs.Answers.{Answer, refused_word, unfit, judged, dropped, leveled, answer_status, answer_line}
-use Rattle.mill_run.specs.Calls.{Call, CanCount, HoldsReads, NamedText, Stores}
+use Rattle.mill_run.specs.Answers.{Answer, refused_word, unfit, judged, dropped, leveled, answer_status, answer_line, NamedText}
+use Rattle.mill_answer.specs.Calls.{Call, CanCount, HoldsReads}
+use Rattle.mill_run.specs.Outcomes.{Stores, Outcome, help, bad_words, no_memory, read_fault, answered, outcome_file, file_name, Fails, FailsAt, IsOutcome, IsOutcomeOf, CountsReads, Shows, ShowsOr, Serves, HasOutcome}
 use Rattle.mill_run.specs.Drop.{HasPlace}
 use Rattle.mill_load.specs.Places.{ReadsPlace, RefusesWord, ReadsHeight, RefusesZ}
 use Rattle.mill_run.specs.Level.{HasHeight}
 use Rattle.mill_run.specs.inner.Loads.{IsReady, Loads}
 use Rattle.mill_load.specs.Loads.{LoadsProgram, LoadsSetup, NamesFault, OnlyLoads}
-use Rattle.mill_run.specs.Outcomes.{Outcome, help, bad_words, no_memory, read_fault, answered, outcome_file, file_name, Fails, FailsAt, IsOutcome, IsOutcomeOf, CountsReads, Shows, ShowsOr, Serves, HasOutcome}
-use Rattle.mill_load.specs.Prints.{Prints, PrintsMade, PrintsFault}
+use Rattle.mill_answer.specs.Prints.{Prints, PrintsMade, PrintsFault}
 use Rattle.mill_run.specs.inner.Prints.{PrintsOutcome, PrintsOr, fault_outcome, refusal_outcome, TriesVerdict, PrintsHeight, TriesLevel}
 use Rattle.mill_load.specs.Setup.{setup_texts, ReadsJob, ReadsSetup}
-use Rattle.mill_run.specs.Verify.{Texts, texts_of, IsReadBeforeProgram, IsUnfitProgram}
-use Rattle.mill_load.proofs.Reading.{rises, HasFault}
+use Rattle.mill_answer.specs.Verify.{Texts, texts_of, IsReadBeforeProgram, IsUnfitProgram}
+use Rattle.mill_answer.proofs.Counts.{rises}
+use Rattle.mill_load.proofs.Reading.{HasFault}
 use Rattle.mill_run.proofs.Taken.{same_request}
 
 -- ---- where nothing is stored
@@ -121,7 +123,7 @@ no_setup texts (load_fault.Unfit (ProgramRefused file fault)) h = absurd h
 no_setup texts (load_fault.Unfit (PartTop height top unit)) h = h
 
 -- job and part were read, and there was no program
-pub no_moves : (texts : Texts) (job : Job) (part : List Tri) (f : LoadFault) → ReadsSetup texts.setup job part → LoadsProgram job texts.program ProgramFile (Err f) → Loads texts (Err f)
+pub no_moves : (texts : Texts) (job : JobFields) (part : List Tri) (f : LoadFault) → ReadsSetup texts.setup job part → LoadsProgram job texts.program ProgramFile (Err f) → Loads texts (Err f)
 no_moves texts job part load_fault.Memory r h = tt
 no_moves texts job part (load_fault.ReadFault file) r h = subst (λ (x : File). IsReadBeforeProgram texts x) (sym h) (job, part, r)
 no_moves texts job part (load_fault.Unfit (TooLong file)) r h =
@@ -143,9 +145,9 @@ pub verdict_serves : (job part program : List ℕ) (workers : ℕ) (call : Call)
     → ((contents : List ℕ → Option (List ℕ)) → HoldsReads contents call → Loads (texts_of contents (record { job = job; part = part; program = program })) (Ok l)) → IsReady l
     → (let r : Result Loaded LoadFault = Ok l in OnlyLoads call.store call.store_after r) → TriesVerdict l call.status call.sink call.sink_after → Serves (verify job part program workers) call
 verdict_serves job part program workers call l read ready loads (inl v) =
-    answer_serves (verify job part program workers) call (judged l.job l.part l.moves.items v.verdict)
-    (λ contents held. record { all_read = read contents held; job_ok = ready.job_ok; moves_ok = ready.moves_ok; is = v.is; safe = v.safe; named = v.named }) loads.held
-    (answer_shows call (judged l.job l.part l.moves.items v.verdict) refl loads.only loads.reads v.printed)
+    answer_serves (verify job part program workers) call (judged l.job.fields l.part l.moves.items v.verdict)
+    (λ contents held. record { all_read = read contents held; job_ok = l.job.is_job; moves_ok = ready.moves_ok; is = v.is; safe = v.safe; named = v.named }) loads.held
+    (answer_shows call (judged l.job.fields l.part l.moves.items v.verdict) refl loads.only loads.reads v.printed)
 verdict_serves job part program workers call l read ready loads (inr m) = short_serves (verify job part program workers) call loads.held (printed_shows call no_memory refl loads.only loads.reads m)
 
 -- ---- `drop`
@@ -157,28 +159,28 @@ drop_fault contents job part x y (load_fault.ReadFault file) h = h
 drop_fault contents job part x y (load_fault.Unfit fault) h = h
 
 -- the job was read, and a word refused
-pub word_serves : (job part x y : List ℕ) (call : Call) (j : Job) (coordinate : Coordinate) (fault : DecFault) → ((contents : List ℕ → Option (List ℕ)) → HoldsReads contents call → ReadsJob (setup_texts contents job part) j)
-    → RefusesWord j.unit x y coordinate fault → (let r : Result Job LoadFault = Ok j in OnlyLoads call.store call.store_after r)
+pub word_serves : (job part x y : List ℕ) (call : Call) (j : Job) (coordinate : Coordinate) (fault : DecFault) → ((contents : List ℕ → Option (List ℕ)) → HoldsReads contents call → ReadsJob (setup_texts contents job part) j.fields)
+    → RefusesWord j.fields.unit x y coordinate fault → (let r : Result Job LoadFault = Ok j in OnlyLoads call.store call.store_after r)
     → PrintsOr (answered (refused_word coordinate fault)) call.status call.sink call.sink_after → Serves (drop job part x y) call
 word_serves job part x y call j coordinate fault read refused loads p =
-    answer_serves (drop job part x y) call (refused_word coordinate fault) (λ contents held. record { job = j; job_is = read contents held; refused = refused }) loads.held
+    answer_serves (drop job part x y) call (refused_word coordinate fault) (λ contents held. record { job = j.fields; job_is = read contents held; refused = refused }) loads.held
     (answer_shows call (refused_word coordinate fault) refl loads.only loads.reads p)
 
-pub height_serves : (job part x y : List ℕ) (call : Call) (j : Job) (place : Place) (s : Setup) → ReadsPlace j.unit x y place → s.job ≡ j
+pub height_serves : (job part x y : List ℕ) (call : Call) (j : JobFields) (place : Place) (s : Setup) → ReadsPlace j.unit x y place → s.job.fields ≡ j
     → ((contents : List ℕ → Option (List ℕ)) → HoldsReads contents call → LoadsSetup (setup_texts contents job part) (Ok s)) → (let r : Result Setup LoadFault = Ok s in OnlyLoads call.store call.store_after r)
     → PrintsHeight s place call.status call.sink call.sink_after → Serves (drop job part x y) call
 height_serves job part x y call j place s words same read loads h =
-    answer_serves (drop job part x y) call (dropped s.job.unit h.height)
+    answer_serves (drop job part x y) call (dropped s.job.fields.unit h.height)
     (λ contents held. record {
       place = place;
-      job = s.job;
+      job = s.job.fields;
       part = s.part;
       unit_is = refl;
-      place_is = subst (λ (k : Job). ReadsPlace k.unit x y place) (sym same) words;
+      place_is = subst (λ (k : JobFields). ReadsPlace k.unit x y place) (sym same) words;
       setup_is = read contents held;
       is = h.is;
     }) loads.held
-    (answer_shows call (dropped s.job.unit h.height) refl loads.only loads.reads h.printed)
+    (answer_shows call (dropped s.job.fields.unit h.height) refl loads.only loads.reads h.printed)
 
 -- ---- `level`
 
@@ -189,28 +191,28 @@ level_fault contents job part z (load_fault.ReadFault file) h = h
 level_fault contents job part z (load_fault.Unfit fault) h = h
 
 -- the job was read, and the word refused
-pub height_word_serves : (job part z : List ℕ) (call : Call) (j : Job) (coordinate : Coordinate) (fault : DecFault) → ((contents : List ℕ → Option (List ℕ)) → HoldsReads contents call → ReadsJob (setup_texts contents job part) j)
-    → RefusesZ j.unit z coordinate fault → (let r : Result Job LoadFault = Ok j in OnlyLoads call.store call.store_after r)
+pub height_word_serves : (job part z : List ℕ) (call : Call) (j : Job) (coordinate : Coordinate) (fault : DecFault) → ((contents : List ℕ → Option (List ℕ)) → HoldsReads contents call → ReadsJob (setup_texts contents job part) j.fields)
+    → RefusesZ j.fields.unit z coordinate fault → (let r : Result Job LoadFault = Ok j in OnlyLoads call.store call.store_after r)
     → PrintsOr (answered (refused_word coordinate fault)) call.status call.sink call.sink_after → Serves (level job part z) call
 height_word_serves job part z call j coordinate fault read refused loads p =
-    answer_serves (level job part z) call (refused_word coordinate fault) (λ contents held. record { job = j; job_is = read contents held; refused = refused }) loads.held
+    answer_serves (level job part z) call (refused_word coordinate fault) (λ contents held. record { job = j.fields; job_is = read contents held; refused = refused }) loads.held
     (answer_shows call (refused_word coordinate fault) refl loads.only loads.reads p)
 
-pub level_serves : (job part z : List ℕ) (call : Call) (j : Job) (height : ℤ) (s : Setup) → ReadsHeight j.unit z height → s.job ≡ j
+pub level_serves : (job part z : List ℕ) (call : Call) (j : JobFields) (height : ℤ) (s : Setup) → ReadsHeight j.unit z height → s.job.fields ≡ j
     → ((contents : List ℕ → Option (List ℕ)) → HoldsReads contents call → LoadsSetup (setup_texts contents job part) (Ok s)) → (let r : Result Setup LoadFault = Ok s in OnlyLoads call.store call.store_after r)
     → TriesLevel s height call.status call.sink call.sink_after → Serves (level job part z) call
 level_serves job part z call j height s words same read loads (inl p) =
-    answer_serves (level job part z) call (leveled s.job.unit p.answer)
+    answer_serves (level job part z) call (leveled s.job.fields.unit p.answer)
     (λ contents held. record {
       height = height;
-      job = s.job;
+      job = s.job.fields;
       part = s.part;
       unit_is = refl;
-      height_is = subst (λ (k : Job). ReadsHeight k.unit z height) (sym same) words;
+      height_is = subst (λ (k : JobFields). ReadsHeight k.unit z height) (sym same) words;
       setup_is = read contents held;
       is = p.is;
     }) loads.held
-    (answer_shows call (leveled s.job.unit p.answer) refl loads.only loads.reads p.printed)
+    (answer_shows call (leveled s.job.fields.unit p.answer) refl loads.only loads.reads p.printed)
 level_serves job part z call j height s words same read loads (inr m) = short_serves (level job part z) call loads.held (printed_shows call no_memory refl loads.only loads.reads m)
 
 -- ---- words

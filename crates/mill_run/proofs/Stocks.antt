@@ -4,7 +4,7 @@ use Rattle.std.proofs.lemmas.List.{append-nil, drop_all, take_all}
 use Rattle.mill_command.specs.Requests.{stock}
 use Rattle.mill_io.specs.Readings.{AreHeld}
 use Rattle.mill_io.specs.Views.{StoreView}
-use Rattle.mill_job.specs.declared.job.Job.{Job}
+use Rattle.mill_job.specs.declared.fields.JobFields.{JobFields}
 use Rattle.mill_load.specs.declared.file.File.{File}
 use Rattle.mill_load.specs.declared.file.File.TheVariants.{Job as JobFile, Part as PartFile, Program as ProgramFile, List as ListFile, StepProgram}
 use Rattle.mill_load.specs.declared.load.LoadFault.{LoadFault}
@@ -12,7 +12,7 @@ use Rattle.mill_load.specs.declared.load.LoadFault.TheVariants.{Memory, ReadFaul
 use Rattle.mill_load.specs.declared.load.Unfit.TheVariants.{TooLong, JobRefused, PartRefused, ListRefused, ProgramRefused, PartTop}
 use Rattle.mill_run.specs.declared.stock.Cutting.{Cutting}
 use Rattle.mill_run.specs.Answers.{stocked}
-use Rattle.mill_run.specs.Calls.{Call, HoldsReads}
+use Rattle.mill_answer.specs.Calls.{Call, HoldsReads}
 use Rattle.mill_run.specs.inner.Loads.{IsCutting, LoadsCutting}
 use Rattle.mill_load.specs.Loads.{LoadsJob, LoadsProgram, OnlyLoads}
 use Rattle.mill_run.specs.Outcomes.{answered, IsOutcome, ShowsOr, Serves}
@@ -43,7 +43,7 @@ no_job texts (Unfit (ProgramRefused file fault)) h = absurd h
 no_job texts (Unfit (PartTop height top unit)) h = absurd h
 
 -- the job was read, and there was no program
-pub no_program : (texts : StockTexts) (job : Job) (f : LoadFault) → ReadsStockJob texts job → LoadsProgram job texts.program ProgramFile (Err f) → LoadsCutting texts (Err f)
+pub no_program : (texts : StockTexts) (job : JobFields) (f : LoadFault) → ReadsStockJob texts job → LoadsProgram job texts.program ProgramFile (Err f) → LoadsCutting texts (Err f)
 no_program texts job Memory r h = tt
 no_program texts job (ReadFault file) r h = subst (λ (x : File). IsReadBeforeStock texts x) (sym h) (job, r)
 no_program texts job (Unfit (TooLong file)) r h = subst (λ (x : File). IsUnfitStock texts (TooLong x)) (sym h.0) (record { job = job; job_is = r; long = h.1 })
@@ -72,7 +72,7 @@ put_back old new n as_long long = rw (drop_all (length new) old (omega arith), a
 -- ---- the answer
 
 -- the answer is shown
-pub answer_drawn : (c : Cutting) (name : List ℕ) (call : Call) (a : StockAnswer) → IsStockAnswer c.job c.moves.items a → ShowsOr (answered (stocked c.job c.moves.items name a)) call → ShowsStockOr c name call
+pub answer_drawn : (c : Cutting) (name : List ℕ) (call : Call) (a : StockAnswer) → IsStockAnswer c.job.fields c.moves.items a → ShowsOr (answered (stocked c.job.fields c.moves.items name a)) call → ShowsStockOr c name call
 answer_drawn c name call a is (inl shown) = inl (record { answer = a; is = is; shows = shown })
 answer_drawn c name call a is (inr m) = inr m
 
@@ -87,7 +87,7 @@ stock_serves job program name call store c read ready loads logged shown = whole
 
     whole : ShowsStockOr c name (from call (record call.store { log = store.log })) → Serves (stock job program name) call
     whole (inl p) =
-        answer_serves (stock job program name) call (stocked c.job c.moves.items name p.answer)
-        (λ contents held. (refl, record { all_read = read contents (holds_before contents call store logged held); job_ok = ready.job_ok; moves_ok = ready.moves_ok; is = p.is })) own
+        answer_serves (stock job program name) call (stocked c.job.fields c.moves.items name p.answer)
+        (λ contents held. (refl, record { all_read = read contents (holds_before contents call store logged held); job_ok = c.job.is_job; moves_ok = ready; is = p.is })) own
         (inl (logged_anyhow call store.log _ p.shows))
     whole (inr m) = short_serves (stock job program name) call own (logged_anyhow call store.log _ m)

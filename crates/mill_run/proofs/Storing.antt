@@ -4,12 +4,12 @@ use Rattle.std.proofs.Math.Path.{fun_ext}
 use Rattle.mill_io.specs.Contents.{AppendedPart}
 use Rattle.mill_io.specs.Readings.{AreHeld, Reading}
 use Rattle.mill_io.specs.Views.{StoreView, ReadsOnly, WritesOnly, IsStored, IsPartStored, IsWritten}
-use Rattle.mill_run.specs.Answers.{Answer, answer_file, answer_line, answer_status}
-use Rattle.mill_run.specs.Calls.{Call, CanCount, HoldsReads, NamedText, Stores}
-use Rattle.mill_run.specs.Outcomes.{Outcome, no_memory, answered, outcome_file, FailsToPrint, FailsToStore, Shows, ShowsWhole}
-use Rattle.mill_load.specs.Prints.{Prints}
+use Rattle.mill_run.specs.Answers.{Answer, answer_file, answer_line, answer_status, NamedText}
+use Rattle.mill_answer.specs.Calls.{Call, CanCount, HoldsReads}
+use Rattle.mill_run.specs.Outcomes.{Stores, Outcome, no_memory, answered, outcome_file, FailsToPrint, FailsToStore, Shows, ShowsWhole}
+use Rattle.mill_answer.specs.Prints.{Prints}
 use Rattle.mill_run.specs.inner.Prints.{PrintsOutcome}
-use Rattle.mill_load.proofs.Reading.{rises}
+use Rattle.mill_answer.proofs.Counts.{rises}
 use Rattle.mill_run.proofs.Serving.{same_store, printed_shows}
 
 -- ---- the store is as it was

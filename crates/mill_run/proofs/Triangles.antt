@@ -3,7 +3,7 @@ use Rattle.std.proofs.Common.{◌≡◌, ℕ, zero, suc, ◌+◌, ◌-◌, ◌*�
 use Rattle.std.specs.List.{flat_map, range_with_len}
 use Rattle.mill_base.specs.declared.points.Pt3.{Pt3}
 use Rattle.mill_base.specs.declared.points.Tri.{Tri}
-use Rattle.mill_job.specs.declared.job.Job.{Job}
+use Rattle.mill_job.specs.declared.fields.JobFields.{JobFields}
 use Rattle.mill_job.specs.Columns.{row_count, column_count}
 use Rattle.mill_surface.specs.Surfaces.{square_tris, strip_tris, surface_tris, surface_of, triangle_count}
 
@@ -26,5 +26,5 @@ length-surface_tris rows columns point =
     length-each (strip_tris columns point) (2 * (columns - 1)) 0 (rows - 1) (length-strip columns point)
     ∙ mul_assoc 2 (columns - 1) (rows - 1) ∙ ap (λ (n : ℕ). 2 * n) (mul_comm (columns - 1) (rows - 1))
 
-pub length-surface : (job : Job) (point : ℕ → ℕ → Pt3) → length (surface_of job point) ≡ triangle_count job
+pub length-surface : (job : JobFields) (point : ℕ → ℕ → Pt3) → length (surface_of job point) ≡ triangle_count job
 length-surface job point = length-surface_tris (row_count job) (column_count job) point

@@ -5,24 +5,28 @@ use Rattle.mill_base.specs.declared.motion.Move.{Move}
 use Rattle.mill_base.specs.declared.unit.Unit.{Unit}
 use Rattle.mill_command.specs.Requests.{Request, verify, plan, drop, level, stock, rest, sample}
 use Rattle.mill_decimal.specs.declared.fault.DecFault.{DecFault}
-use Rattle.mill_list.specs.declared.step.Step.{Step}
-use Rattle.mill_job.specs.declared.job.Job.{Job}
+use Rattle.mill_job.specs.declared.step.Step.{Step}
+use Rattle.mill_job.specs.declared.fields.JobFields.{JobFields}
 use Rattle.mill_plan.specs.Plans.{PlanAnswer, done}
 use Rattle.mill_verify.specs.Files.{File}
 use Rattle.mill_verify.specs.declared.list.ListVerdict.{ListVerdict}
 use Rattle.mill_verify.specs.declared.verdict.Verdict.{Verdict}
 use Rattle.mill_load.specs.declared.load.Unfit.{Unfit}
 use Rattle.mill_load.specs.declared.place.Coordinate.{Coordinate}
-use Rattle.mill_run.specs.Calls.{NamedText}
 use Rattle.mill_run.specs.Drop.{HasPlace, RefusesPlace, Drops, height_line}
-use Rattle.mill_load.specs.Faults.{word_line, unfit_line}
+use Rattle.mill_answer.specs.Faults.{word_line, unfit_line}
 use Rattle.mill_run.specs.Level.{HasHeight, RefusesHeight, LevelAnswer, Levels, level_status, level_line}
 use Rattle.mill_run.specs.Plan.{Plans, plan_status, plan_line}
 use Rattle.mill_run.specs.Rest.{rest_texts, IsUnfitRest, JudgesFiles, list_status, list_line}
 use Rattle.mill_run.specs.Sample.{Samples, sample_status, sample_line}
 use Rattle.mill_run.specs.Stock.{StockAnswer, drawn, stock_texts, DrawsStock, IsUnfitStock, stock_status, stock_line}
 use Rattle.mill_load.specs.Setup.{setup_texts, IsUnfit, IsUnfitWith}
-use Rattle.mill_run.specs.Verify.{texts_of, IsUnfitProgram, Judges, verdict_status, verdict_line}
+use Rattle.mill_answer.specs.Verify.{texts_of, IsUnfitProgram, Judges, verdict_status, verdict_line}
+
+-- a text and the name that it is to be stored under
+pub record NamedText : Type 0 where
+  pub name : List ℕ
+  pub text : List ℕ
 
 -- what can be answered: a word is refused; a file is refused or too long, or the part is too high; a verdict on a job, a part and moves;
 -- the planner's answer to a job and a part, with the name that a program is stored under; a drop height; the answer at a height; each of these two with the unit of its lengths;
@@ -30,12 +34,12 @@ use Rattle.mill_run.specs.Verify.{texts_of, IsUnfitProgram, Judges, verdict_stat
 pub data Answer : Type 0 where
   refused_word : Coordinate → DecFault → Answer
   unfit : Unfit → Answer
-  judged : Job → List Tri → List Move → Verdict → Answer
-  planned : Job → List Tri → List ℕ → PlanAnswer → Answer
+  judged : JobFields → List Tri → List Move → Verdict → Answer
+  planned : JobFields → List Tri → List ℕ → PlanAnswer → Answer
   dropped : Unit → ℤ → Answer
   leveled : Unit → LevelAnswer → Answer
-  stocked : Job → List Move → List ℕ → StockAnswer → Answer
-  judged_files : Job → List Tri → List Step → List File → ListVerdict → Answer
+  stocked : JobFields → List Move → List ℕ → StockAnswer → Answer
+  judged_files : JobFields → List Tri → List Step → List File → ListVerdict → Answer
   sampled : ℕ → PlanAnswer → Answer
 
 -- its exit status

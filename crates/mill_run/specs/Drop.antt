@@ -4,12 +4,12 @@ use Rattle.mill_base.specs.declared.points.Tri.{Tri}
 use Rattle.mill_base.specs.declared.unit.Unit.{Unit}
 use Rattle.mill_decimal.specs.Decimals.{canonical}
 use Rattle.mill_decimal.specs.declared.fault.DecFault.{DecFault}
-use Rattle.mill_job.specs.declared.job.Job.{Job}
+use Rattle.mill_job.specs.declared.fields.JobFields.{JobFields}
 use Rattle.mill_job.specs.Jobs.{tool_of}
 use Rattle.mill_drop.specs.Drops.{IsDropHeight}
-use Rattle.mill_line.specs.Lines.{line}
+use Rattle.mill_answer.specs.Lines.{line}
 use Rattle.mill_load.specs.declared.place.Coordinate.{Coordinate}
-use Rattle.mill_job.specs.declared.job.Place.{Place}
+use Rattle.mill_job.specs.declared.fields.Place.{Place}
 use Rattle.mill_load.specs.Places.{ReadsPlace, RefusesWord}
 use Rattle.mill_load.specs.Setup.{SetupTexts, ReadsJob, ReadsSetup}
 
@@ -17,14 +17,14 @@ use Rattle.mill_load.specs.Setup.{SetupTexts, ReadsJob, ReadsSetup}
 
 -- the job is read, and in its unit the words read as some place
 pub record HasPlace (texts : SetupTexts) (x y : List ℕ) : Type 0 where
-  pub job : Job
+  pub job : JobFields
   pub place : Place
   pub job_is : ReadsJob texts job
   pub place_is : ReadsPlace job.unit x y place
 
 -- the job is read, and in its unit this is the first of the two words that is refused
 pub record RefusesPlace (texts : SetupTexts) (x y : List ℕ) (coordinate : Coordinate) (fault : DecFault) : Type 0 where
-  pub job : Job
+  pub job : JobFields
   pub job_is : ReadsJob texts job
   pub refused : RefusesWord job.unit x y coordinate fault
 
@@ -33,7 +33,7 @@ pub record RefusesPlace (texts : SetupTexts) (x y : List ℕ) (coordinate : Coor
 -- job, words and part are read, and this is the drop height of the job's tool at the place, not under the job's floor, in the job's unit
 pub record Drops (x y : List ℕ) (texts : SetupTexts) (unit : Unit) (height : ℤ) : Type 0 where
   pub place : Place
-  pub job : Job
+  pub job : JobFields
   pub part : List Tri
   pub unit_is : unit ≡ job.unit
   pub place_is : ReadsPlace job.unit x y place

@@ -7,11 +7,11 @@ use Rattle.mill_base.specs.declared.motion.Move.{Move}
 use Rattle.mill_command.specs.Requests.{Request, is_taken, request}
 use Rattle.mill_dexel.specs.Tops.{uncut}
 use Rattle.mill_job.specs.Jobs.{IsJob}
-use Rattle.mill_job.specs.declared.job.Job.{Job}
+use Rattle.mill_job.specs.declared.fields.JobFields.{JobFields}
 use Rattle.mill_plan.specs.Plans.{done}
 use Rattle.mill_stl.specs.Written.{ReadsBack}
 use Rattle.mill_verify.specs.Verdicts.{IsRejection, NamesLeaf}
-use Rattle.mill_list.specs.declared.step.Step.{Step}
+use Rattle.mill_job.specs.declared.step.Step.{Step}
 use Rattle.mill_verify.specs.Claims.{CutsSafely}
 use Rattle.mill_verify.specs.Files.{File as CutFile, IsFileOf}
 use Rattle.mill_verify.specs.ListClaims.{FilesCutSafely}
@@ -19,9 +19,10 @@ use Rattle.mill_verify.specs.Lists.{IsListVerdict}
 use Rattle.mill_verify.specs.declared.list.ListVerdict.{ListVerdict}
 use Rattle.mill_verify.specs.declared.verdict.Verdict.TheVariants.{Accept, Reject}
 use Rattle.mill_verify.specs.declared.verdict.Reason.{Reason}
-use Rattle.mill_job.specs.declared.job.Place.{Place}
+use Rattle.mill_job.specs.declared.fields.Place.{Place}
 use Rattle.mill_run.specs.Answers.{Answer, IsAnswer, answer_status, answer_line, answer_file}
-use Rattle.mill_run.specs.Calls.{Call, HoldsReads, NoFault, Stores}
+use Rattle.mill_answer.specs.Calls.{Call, HoldsReads, NoFault}
+use Rattle.mill_run.specs.Outcomes.{Stores}
 use Rattle.mill_load.specs.Loads.{AreMoves}
 use Rattle.mill_load.specs.Places.{ReadsPlace, ReadsHeight}
 use Rattle.mill_run.specs.Outcomes.{ShowsHelp, RefusesWords}
@@ -29,8 +30,9 @@ use Rattle.mill_run.specs.Plan.{plan_line}
 use Rattle.mill_run.specs.Rest.{rest_texts, AreRestTold, ReadsRest, IsFileNamed, list_status, list_line}
 use Rattle.mill_load.specs.Setup.{Fits, setup_texts, AreSetupTold, ReadsSetup}
 use Rattle.mill_run.specs.Stock.{stock_texts, AreStockTold, ReadsStock, stock_surface, drawn, stock_line}
-use Rattle.mill_run.specs.Verify.{texts_of, AreTold, Reads, Judges, verdict_line}
-use Rattle.mill_run.specs.Words.{Files, AsksVerify, PlanFiles, AsksPlan, DropWords, AsksDrop, LevelWords, AsksLevel, StockFiles, AsksStock, RestFiles, AsksRest, AsksSample}
+use Rattle.mill_answer.specs.Verify.{AcceptsSafely, texts_of, AreTold, Reads, Judges, verdict_line}
+use Rattle.mill_answer.specs.Verify.{Files}
+use Rattle.mill_run.specs.Words.{AsksVerify, PlanFiles, AsksPlan, DropWords, AsksDrop, LevelWords, AsksLevel, StockFiles, AsksStock, RestFiles, AsksRest, AsksSample}
 
 -- ---- from bytes to bytes
 
@@ -52,21 +54,21 @@ Answers words call = (asked : Request) → request words ≡ Some asked → NoFa
 -- where the files and the programs that the list names are told, hold what the reads gave and are read, the part isn't over the job's top and nothing of the outside failed, the programs are accepted or rejected; or memory was short;
 -- where nothing of the outside failed, a sample is planned, or its plan leaves stock uncut, or its holder would touch stock, or it is too large; or memory was short
 pub record Completes (words : List (List ℕ)) (call : Call) : Type 0 where
-  pub verifies : (files : Files) (contents : List ℕ → Option (List ℕ)) (job : Job) (part : List Tri) (moves : List Move) → AsksVerify words files → HoldsReads contents call
+  pub verifies : (files : Files) (contents : List ℕ → Option (List ℕ)) (job : JobFields) (part : List Tri) (moves : List Move) → AsksVerify words files → HoldsReads contents call
       → AreTold (texts_of contents files) → Reads (texts_of contents files) job part moves → NoFault call → (call.status ≡ 0) ⊎ ((call.status ≡ 3) ⊎ (call.status ≡ 5))
-  pub plans : (files : PlanFiles) (contents : List ℕ → Option (List ℕ)) (job : Job) (part : List Tri) → AsksPlan words files → HoldsReads contents call
+  pub plans : (files : PlanFiles) (contents : List ℕ → Option (List ℕ)) (job : JobFields) (part : List Tri) → AsksPlan words files → HoldsReads contents call
       → AreSetupTold (setup_texts contents files.job files.part) → ReadsSetup (setup_texts contents files.job files.part) job part → NoFault call
       → (call.status ≡ 0) ⊎ ((call.status ≡ 8) ⊎ ((call.status ≡ 9) ⊎ (call.status ≡ 5)))
-  pub drops : (given : DropWords) (contents : List ℕ → Option (List ℕ)) (place : Place) (job : Job) (part : List Tri) → AsksDrop words given
+  pub drops : (given : DropWords) (contents : List ℕ → Option (List ℕ)) (place : Place) (job : JobFields) (part : List Tri) → AsksDrop words given
       → ReadsPlace job.unit given.x given.y place → HoldsReads contents call → AreSetupTold (setup_texts contents given.job given.part)
       → ReadsSetup (setup_texts contents given.job given.part) job part → NoFault call → (call.status ≡ 0) ⊎ (call.status ≡ 5)
-  pub levels : (given : LevelWords) (contents : List ℕ → Option (List ℕ)) (height : ℤ) (job : Job) (part : List Tri) → AsksLevel words given
+  pub levels : (given : LevelWords) (contents : List ℕ → Option (List ℕ)) (height : ℤ) (job : JobFields) (part : List Tri) → AsksLevel words given
       → ReadsHeight job.unit given.z height → HoldsReads contents call → AreSetupTold (setup_texts contents given.job given.part)
       → ReadsSetup (setup_texts contents given.job given.part) job part → NoFault call → (call.status ≡ 0) ⊎ ((call.status ≡ 9) ⊎ (call.status ≡ 5))
-  pub stocks : (files : StockFiles) (contents : List ℕ → Option (List ℕ)) (job : Job) (moves : List Move) → AsksStock words files → HoldsReads contents call
+  pub stocks : (files : StockFiles) (contents : List ℕ → Option (List ℕ)) (job : JobFields) (moves : List Move) → AsksStock words files → HoldsReads contents call
       → AreStockTold (stock_texts contents files.job files.program) → ReadsStock (stock_texts contents files.job files.program) job moves → NoFault call
       → (call.status ≡ 0) ⊎ ((call.status ≡ 9) ⊎ (call.status ≡ 5))
-  pub rests : (names : RestFiles) (contents : List ℕ → Option (List ℕ)) (job : Job) (part : List Tri) (steps : List Step) (files : List CutFile) → AsksRest words names
+  pub rests : (names : RestFiles) (contents : List ℕ → Option (List ℕ)) (job : JobFields) (part : List Tri) (steps : List Step) (files : List CutFile) → AsksRest words names
       → HoldsReads contents call → AreRestTold (rest_texts contents names) steps
       → ReadsRest (rest_texts contents names) job part steps files → NoFault call → (call.status ≡ 0) ⊎ ((call.status ≡ 3) ⊎ (call.status ≡ 5))
   pub samples : (n : ℕ) → AsksSample words n → NoFault call → (call.status ≡ 0) ⊎ ((call.status ≡ 8) ⊎ ((call.status ≡ 9) ⊎ (call.status ≡ 5)))
@@ -78,22 +80,18 @@ pub record Untaken (words : List (List ℕ)) (call : Call) : Type 0 where
       → ((call.status ≡ 0) × ShowsHelp words) ⊎ ((call.status ≡ 2) × RefusesWords words)
   pub mistaken : call.status ≡ 2 → RefusesWords words
 
--- ---- what status 0 and status 3 mean
+-- what is said of a call from bytes to bytes: which answer words get that are taken, when they get one of their command's own, and what becomes of words that aren't taken
+pub record Replies (words : List (List ℕ)) (call : Call) : Type 0 where
+  pub answers : Answers words call
+  pub completes : Completes words call
+  pub untaken : Untaken words call
 
--- each file, if it holds what the reads gave, reads as this job, this part and these moves, which are in their ranges, and the moves are safe
-pub record AcceptsSafely (call : Call) (files : Files) : Type 0 where
-  pub job : Job
-  pub part : List Tri
-  pub moves : List Move
-  pub all_read : (contents : List ℕ → Option (List ℕ)) → HoldsReads contents call → Reads (texts_of contents files) job part moves
-  pub job_ok : IsJob job
-  pub moves_ok : AreMoves job moves
-  pub safe : CutsSafely job part moves
+-- ---- what status 0 and status 3 mean
 
 -- each file, if it holds what the reads gave, reads as this job, this part and these moves, which are in their ranges, the first written test that fails is this one, and the line names it;
 -- a leaf that it names is one of the last of its move, and blocked
 pub record RejectsFirst (call : Call) (files : Files) : Type 0 where
-  pub job : Job
+  pub job : JobFields
   pub part : List Tri
   pub moves : List Move
   pub reason : Reason
@@ -112,13 +110,13 @@ pub record RejectsFirst (call : Call) (files : Files) : Type 0 where
 pub record Headline (words : List (List ℕ)) (call : Call) : Type 0 where
   pub accepts : (files : Files) → AsksVerify words files → call.status ≡ 0 → AcceptsSafely call files
   pub rejects : (files : Files) → AsksVerify words files → call.status ≡ 3 → RejectsFirst call files
-  pub exactly : (files : Files) (contents : List ℕ → Option (List ℕ)) (job : Job) (part : List Tri) (moves : List Move) (reason : Reason) → AsksVerify words files
+  pub exactly : (files : Files) (contents : List ℕ → Option (List ℕ)) (job : JobFields) (part : List Tri) (moves : List Move) (reason : Reason) → AsksVerify words files
       → HoldsReads contents call → AreTold (texts_of contents files) → Reads (texts_of contents files) job part moves
       → IsRejection job part moves reason → NoFault call → call.status ≢ 5 → call.status ≡ 3
 
 -- the file holds a text that `verify` accepts with the same job and part, whatever their files hold, if they hold what the reads gave; its moves are safe, and the line has its numbers
 pub record StoresSafely (call : Call) (files : PlanFiles) : Type 0 where
-  pub job : Job
+  pub job : JobFields
   pub part : List Tri
   pub moves : List Move
   pub text : List ℕ
@@ -137,7 +135,7 @@ PlanHeadline words call = (files : PlanFiles) → AsksPlan words files → call.
 -- the job's and the program's file, if they hold what the reads gave, read as this job and these moves, which are in their ranges; the file holds a text that reads, in the job's unit,
 -- as exactly the surface of the stock after the moves, of which each corner is the point at its column's top and no coordinate is rounded; and the line has the number of its triangles
 pub record StoresStock (call : Call) (files : StockFiles) : Type 0 where
-  pub job : Job
+  pub job : JobFields
   pub moves : List Move
   pub text : List ℕ
   pub all_read : (contents : List ℕ → Option (List ℕ)) → HoldsReads contents call → ReadsStock (stock_texts contents files.job files.program) job moves
@@ -154,7 +152,7 @@ StockHeadline words call = (files : StockFiles) → AsksStock words files → ca
 
 -- each file, if it holds what the reads gave, reads as this job, this part, these steps and these files, which are in their ranges, and the files cut safely in turn, each with its step's cutter
 pub record AcceptsFilesSafely (call : Call) (names : RestFiles) : Type 0 where
-  pub job : Job
+  pub job : JobFields
   pub part : List Tri
   pub steps : List Step
   pub files : List CutFile
@@ -166,7 +164,7 @@ pub record AcceptsFilesSafely (call : Call) (names : RestFiles) : Type 0 where
 -- each file, if it holds what the reads gave, reads as this job, this part, these steps and these files, which are in their ranges, the verdict on them is this rejection, and the line names it;
 -- a leaf that it names is one of the last of its move, and blocked
 pub record RejectsFilesFirst (call : Call) (names : RestFiles) : Type 0 where
-  pub job : Job
+  pub job : JobFields
   pub part : List Tri
   pub steps : List Step
   pub files : List CutFile
@@ -184,7 +182,7 @@ pub record RejectsFilesFirst (call : Call) (names : RestFiles) : Type 0 where
 pub record RestHeadline (words : List (List ℕ)) (call : Call) : Type 0 where
   pub accepts : (names : RestFiles) → AsksRest words names → call.status ≡ 0 → AcceptsFilesSafely call names
   pub rejects : (names : RestFiles) → AsksRest words names → call.status ≡ 3 → RejectsFilesFirst call names
-  pub exactly : (names : RestFiles) (contents : List ℕ → Option (List ℕ)) (job : Job) (part : List Tri) (steps : List Step) (files : List CutFile) (verdict : ListVerdict)
+  pub exactly : (names : RestFiles) (contents : List ℕ → Option (List ℕ)) (job : JobFields) (part : List Tri) (steps : List Step) (files : List CutFile) (verdict : ListVerdict)
       → AsksRest words names → HoldsReads contents call → AreRestTold (rest_texts contents names) steps
       → ReadsRest (rest_texts contents names) job part steps files → IsListVerdict job part files verdict → list_status verdict ≡ 3 → NoFault call → call.status ≢ 5 → call.status ≡ 3
 

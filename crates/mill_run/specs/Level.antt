@@ -8,28 +8,28 @@ use Rattle.mill_base.specs.declared.points.Tri.{Tri}
 use Rattle.mill_base.specs.declared.unit.Unit.{Unit}
 use Rattle.mill_decimal.specs.Decimals.{canonical}
 use Rattle.mill_decimal.specs.declared.fault.DecFault.{DecFault}
-use Rattle.mill_job.specs.declared.job.Job.{Job}
+use Rattle.mill_job.specs.declared.fields.JobFields.{JobFields}
 use Rattle.mill_job.specs.Jobs.{tool_of}
 use Rattle.mill_level.specs.Waterlines.{Outline, IsWaterline, HasManyNodes}
 use Rattle.mill_paths.specs.Lattices.{finish_lattice}
-use Rattle.mill_line.specs.Lines.{line}
+use Rattle.mill_answer.specs.Lines.{line}
 use Rattle.mill_load.specs.declared.place.Coordinate.{Coordinate}
 use Rattle.mill_load.specs.Places.{ReadsHeight, RefusesZ}
-use Rattle.mill_load.specs.Printed.{nodes_line}
+use Rattle.mill_answer.specs.Printed.{nodes_line}
 use Rattle.mill_load.specs.Setup.{SetupTexts, ReadsJob, ReadsSetup}
 
 -- ---- the word
 
 -- the job is read, and in its unit the word reads as some height
 pub record HasHeight (texts : SetupTexts) (z : List ℕ) : Type 0 where
-  pub job : Job
+  pub job : JobFields
   pub height : ℤ
   pub job_is : ReadsJob texts job
   pub height_is : ReadsHeight job.unit z height
 
 -- the job is read, and in its unit the word is refused
 pub record RefusesHeight (texts : SetupTexts) (z : List ℕ) (coordinate : Coordinate) (fault : DecFault) : Type 0 where
-  pub job : Job
+  pub job : JobFields
   pub job_is : ReadsJob texts job
   pub refused : RefusesZ job.unit z coordinate fault
 
@@ -42,14 +42,14 @@ pub data LevelAnswer : Type 0 where
 
 -- the outlines are the part's waterline at the height, for the job's tool and over its area by steps of its raster, and that lattice has no more nodes than one may;
 -- or it has so many nodes, which are too many
-abbrev pub IsLevelAnswer : Job → List Tri → ℤ → LevelAnswer → Type 0
+abbrev pub IsLevelAnswer : JobFields → List Tri → ℤ → LevelAnswer → Type 0
 IsLevelAnswer job part height (outlines found) = IsWaterline (tool_of job) part height (finish_lattice job) found × (node_count (finish_lattice job) ≤ MAX_NODES)
 IsLevelAnswer job part height (too_many_nodes nodes) = HasManyNodes (finish_lattice job) nodes
 
 -- job, word and part are read, and this is the answer at the height, in the job's unit
 pub record Levels (z : List ℕ) (texts : SetupTexts) (unit : Unit) (answer : LevelAnswer) : Type 0 where
   pub height : ℤ
-  pub job : Job
+  pub job : JobFields
   pub part : List Tri
   pub unit_is : unit ≡ job.unit
   pub height_is : ReadsHeight job.unit z height

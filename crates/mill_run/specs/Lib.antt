@@ -1,6 +1,4 @@
 pub mod Words
-pub mod Calls
-pub mod Verify
 pub mod Plan
 pub mod Drop
 pub mod Level
@@ -11,4 +9,5 @@ pub mod Answers
 pub mod Outcomes
 pub mod Laws
 pub mod Headline
+pub mod SamplePart
 pub mod inner

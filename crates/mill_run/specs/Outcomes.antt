@@ -2,19 +2,19 @@
 use Rattle.std.specs.Prelude.{◌⊎◌, ◌≡◌, ◌<◌, ℕ, false, List, [], Option, None, Some}
 use Rattle.mill_io.specs.Contents.{AppendedPart}
 use Rattle.mill_io.specs.Readings.{LastFails, Reading}
-use Rattle.mill_io.specs.Views.{IsWritten, IsPartStored}
+use Rattle.mill_io.specs.Views.{IsWritten, IsPartStored, IsStored, ReadsOnly}
 use Rattle.mill_command.specs.Requests.{AsksHelp, IsMistaken, Request, faults, is_taken, request, verify, plan, drop, level, stock, rest, sample}
 use Rattle.mill_load.specs.declared.file.File.{File}
 use Rattle.mill_load.specs.declared.file.File.TheVariants.{Job as JobFile, Part as PartFile, Program as ProgramFile, List as ListFile, StepProgram}
-use Rattle.mill_run.specs.Answers.{Answer, IsAnswer, answer_status, answer_line, answer_file}
-use Rattle.mill_run.specs.Calls.{Call, HoldsReads, NamedText, Stores}
+use Rattle.mill_run.specs.Answers.{Answer, IsAnswer, NamedText, answer_status, answer_line, answer_file}
+use Rattle.mill_answer.specs.Calls.{Call, HoldsReads}
 use Rattle.mill_run.specs.Drop.{HasPlace}
-use Rattle.mill_load.specs.Faults.{memory_line, read_fault_line}
+use Rattle.mill_answer.specs.Faults.{memory_line, read_fault_line}
 use Rattle.mill_run.specs.Level.{HasHeight}
 use Rattle.mill_run.specs.Rest.{rest_texts, FailsAtStep, IsReadBeforeRest}
 use Rattle.mill_load.specs.Setup.{setup_texts, IsReadBefore, IsReadBeforeWith}
 use Rattle.mill_run.specs.Stock.{stock_texts, IsReadBeforeStock}
-use Rattle.mill_run.specs.Verify.{texts_of, IsReadBeforeProgram}
+use Rattle.mill_answer.specs.Verify.{texts_of, IsReadBeforeProgram}
 
 -- what a call comes to before it prints: clap's text of help or of a mistake in the words; or no answer; or one
 pub data Outcome : Type 0 where
@@ -117,6 +117,11 @@ IsOutcomeOf words contents (read_fault file) = AsksFor words contents (read_faul
 IsOutcomeOf words contents (answered answer) = AsksFor words contents (answered answer)
 
 -- ---- how it is shown
+
+-- the text is stored under its name, and nothing else has changed; where there is none, nothing has
+abbrev pub Stores : Call → Option NamedText → Type 0
+Stores call None = ReadsOnly call.store call.store_after
+Stores call (Some file) = IsStored file.name file.text call.store call.store_after
 
 -- the status is the outcome's, its line is printed and its text is stored
 pub record ShowsWhole (call : Call) (outcome : Outcome) : Type 0 where

@@ -4,14 +4,14 @@ use Rattle.mill_base.specs.declared.points.Tri.{Tri}
 use Rattle.mill_base.specs.declared.unit.Unit.{Unit}
 use Rattle.mill_decimal.specs.Decimals.{canonical}
 use Rattle.mill_job.specs.Jobs.{IsJob}
-use Rattle.mill_job.specs.declared.job.Job.{Job}
+use Rattle.mill_job.specs.declared.fields.JobFields.{JobFields}
 use Rattle.mill_plan.specs.Plans.{PlanAnswer, IsPlanAnswer, done, too_many_nodes, too_many_moves, uncut, held}
-use Rattle.mill_line.specs.Lines.{line}
-use Rattle.mill_load.specs.Printed.{column_words, nodes_line}
+use Rattle.mill_answer.specs.Lines.{line}
+use Rattle.mill_answer.specs.Printed.{column_words, nodes_line}
 use Rattle.mill_load.specs.Setup.{SetupTexts, ReadsSetup}
 
 -- job and part are read, the job is in its ranges, and this is the planner's answer to them
-pub record Plans (texts : SetupTexts) (job : Job) (part : List Tri) (answer : PlanAnswer) : Type 0 where
+pub record Plans (texts : SetupTexts) (job : JobFields) (part : List Tri) (answer : PlanAnswer) : Type 0 where
   pub setup_is : ReadsSetup texts job part
   pub job_ok : IsJob job
   pub is : IsPlanAnswer job part answer

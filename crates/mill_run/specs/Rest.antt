@@ -5,9 +5,9 @@ use Rattle.mill_base.specs.declared.points.Tri.{Tri}
 use Rattle.mill_decimal.specs.Decimals.{canonical}
 use Rattle.mill_job.specs.declared.fault.JobFault.{JobFault}
 use Rattle.mill_job.specs.Jobs.{IsJob}
-use Rattle.mill_job.specs.declared.job.Job.{Job}
-use Rattle.mill_list.specs.Lists.{IsListOf}
-use Rattle.mill_list.specs.declared.step.Step.{Step}
+use Rattle.mill_job.specs.declared.fields.JobFields.{JobFields}
+use Rattle.mill_job.specs.Lists.{IsListOf}
+use Rattle.mill_job.specs.declared.step.Step.{Step}
 use Rattle.mill_block.specs.declared.fault.NgcFault.{NgcFault}
 use Rattle.mill_verify.specs.Files.{File as CutFile, IsFileOf, file_at, job_of, stock_before}
 use Rattle.mill_verify.specs.ListClaims.{FilesCutSafely}
@@ -15,16 +15,16 @@ use Rattle.mill_verify.specs.Lists.{IsListVerdict}
 use Rattle.mill_verify.specs.Verdicts.{NamesLeaf}
 use Rattle.mill_verify.specs.declared.list.ListVerdict.{ListVerdict}
 use Rattle.mill_verify.specs.declared.list.ListVerdict.TheVariants.{Accept, Reject, Left}
-use Rattle.mill_line.specs.Lines.{line}
+use Rattle.mill_answer.specs.Lines.{line}
 use Rattle.mill_load.specs.declared.file.File.{File}
 use Rattle.mill_load.specs.declared.file.File.TheVariants.{List as ListFile, StepProgram}
 use Rattle.mill_load.specs.declared.load.Unfit.{Unfit}
 use Rattle.mill_load.specs.declared.load.Unfit.TheVariants.{TooLong, ListRefused, ProgramRefused}
-use Rattle.mill_load.specs.Printed.{column_words}
+use Rattle.mill_answer.specs.Printed.{column_words}
 use Rattle.mill_io.specs.Readings.{LastFails, Reading}
 use Rattle.mill_load.specs.Setup.{SetupTexts, setup_texts, AreSetupTold, FitsJobFile, IsTooLong, IsTooLongJob, ReadsSetup, IsUnfit, IsReadBefore}
 use Rattle.mill_load.specs.Programs.{IsProgramText, IsRefusedProgram}
-use Rattle.mill_run.specs.Verify.{NamesMove, reason_words}
+use Rattle.mill_answer.specs.Verify.{NamesMove, reason_words}
 use Rattle.mill_run.specs.Words.{RestFiles}
 
 -- what is told of the job's, the part's and the list's file, and of each name that a list may give: the text of each, or nothing
@@ -45,17 +45,17 @@ pub record AreRestTold (texts : RestTexts) (steps : List Step) : Type 0 where
 -- ---- the list
 
 -- a text within the limit that reads, for the job, as these steps
-pub record IsListText (job : Job) (text : List ℕ) (steps : List Step) : Type 0 where
+pub record IsListText (job : JobFields) (text : List ℕ) (steps : List Step) : Type 0 where
   pub fits : FitsJobFile text
   pub reads : IsListOf job text (Ok steps)
 
 -- a text within the limit that is refused, with its first fault
-pub record IsRefusedList (job : Job) (text : List ℕ) (fault : JobFault) : Type 0 where
+pub record IsRefusedList (job : JobFields) (text : List ℕ) (fault : JobFault) : Type 0 where
   pub fits : FitsJobFile text
   pub refused : IsListOf job text (Err fault)
 
 -- where the list's file is told, it reads, for the job, as these steps
-abbrev pub ReadsList : RestTexts → Job → List Step → Type 0
+abbrev pub ReadsList : RestTexts → JobFields → List Step → Type 0
 ReadsList texts job steps = IfSome texts.list (λ text. IsListText job text steps)
 
 -- ---- its programs
@@ -65,18 +65,18 @@ abbrev pub step_at : List Step → ℕ → Step
 step_at steps k = slice_index_or steps k (record { program = []; cutter = Flat (pos 1) })
 
 -- the file has the step's cutter; where the step's program is told, it reads, from the job's home and in its unit, as the file's moves
-pub record ReadsStep (programs : List ℕ → Option (List ℕ)) (job : Job) (step : Step) (file : CutFile) : Type 0 where
+pub record ReadsStep (programs : List ℕ → Option (List ℕ)) (job : JobFields) (step : Step) (file : CutFile) : Type 0 where
   pub cutter_is : file.cutter ≡ step.cutter
   pub moves_are : IfSome (programs step.program) (λ text. IsProgramText job text file.moves)
 
 -- so it is of each step and the file at its place
-abbrev pub ReadsSteps : (List ℕ → Option (List ℕ)) → Job → List Step → List CutFile → Type 0
+abbrev pub ReadsSteps : (List ℕ → Option (List ℕ)) → JobFields → List Step → List CutFile → Type 0
 ReadsSteps programs job [] [] = Unit {0}
 ReadsSteps programs job (step ∷ steps) (file ∷ files) = ReadsStep programs job step file × ReadsSteps programs job steps files
 ReadsSteps programs job _ _ = ⊥
 
 -- job, part and list, where they are told, read as this job, this part and these steps, the part isn't over the job's top, and the steps read as these files
-pub record ReadsRest (texts : RestTexts) (job : Job) (part : List Tri) (steps : List Step) (files : List CutFile) : Type 0 where
+pub record ReadsRest (texts : RestTexts) (job : JobFields) (part : List Tri) (steps : List Step) (files : List CutFile) : Type 0 where
   pub setup_is : ReadsSetup texts.setup job part
   pub list_is : ReadsList texts job steps
   pub files_are : ReadsSteps texts.programs job steps files
@@ -85,20 +85,20 @@ pub record ReadsRest (texts : RestTexts) (job : Job) (part : List Tri) (steps : 
 
 -- job and part are read, and the part isn't too high; where the list's file is told, it is too long
 pub record LongList (texts : RestTexts) : Type 0 where
-  pub job : Job
+  pub job : JobFields
   pub part : List Tri
   pub setup_is : ReadsSetup texts.setup job part
   pub long : IfSome texts.list IsTooLongJob
 
 -- job and part are read, and the part isn't too high; where the list's file is told, it is refused for the job
 pub record RefusesList (texts : RestTexts) (fault : JobFault) : Type 0 where
-  pub job : Job
+  pub job : JobFields
   pub part : List Tri
   pub setup_is : ReadsSetup texts.setup job part
   pub refused : IfSome texts.list (λ text. IsRefusedList job text fault)
 
 -- all that comes before the program of step k, which is this step, is read: job, part and list, and the programs of the steps before it
-pub record ReadsToStep (texts : RestTexts) (job : Job) (step : Step) (k : ℕ) : Type 0 where
+pub record ReadsToStep (texts : RestTexts) (job : JobFields) (step : Step) (k : ℕ) : Type 0 where
   pub part : List Tri
   pub steps : List Step
   pub files : List CutFile
@@ -110,14 +110,14 @@ pub record ReadsToStep (texts : RestTexts) (job : Job) (step : Step) (k : ℕ) :
 
 -- so it is; where the program of step k is told, it is too long
 pub record LongStep (texts : RestTexts) (k : ℕ) : Type 0 where
-  pub job : Job
+  pub job : JobFields
   pub step : Step
   pub before : ReadsToStep texts job step k
   pub long : IfSome (texts.programs step.program) IsTooLong
 
 -- so it is; where the program of step k is told, it is refused
 pub record RefusesStep (texts : RestTexts) (k : ℕ) (fault : NgcFault) : Type 0 where
-  pub job : Job
+  pub job : JobFields
   pub step : Step
   pub before : ReadsToStep texts job step k
   pub refused : IfSome (texts.programs step.program) (λ text. IsRefusedProgram job text fault)
@@ -132,14 +132,14 @@ IsUnfitRest texts unfit = IsUnfit texts.setup unfit
 
 -- all that is read and checked before one of the files holds
 abbrev pub IsReadBeforeRest : RestTexts → File → Type 0
-IsReadBeforeRest texts ListFile = (job : Job) × (part : List Tri) × ReadsSetup texts.setup job part
-IsReadBeforeRest texts (StepProgram k) = (job : Job) × (step : Step) × ReadsToStep texts job step k
+IsReadBeforeRest texts ListFile = (job : JobFields) × (part : List Tri) × ReadsSetup texts.setup job part
+IsReadBeforeRest texts (StepProgram k) = (job : JobFields) × (step : Step) × ReadsToStep texts job step k
 IsReadBeforeRest texts file = IsReadBefore texts.setup file
 
 -- the last read was one of the program of step k, and it failed; all that comes before it is read.
 -- Where the list isn't told, nothing says what its step k is: so this is to be said of every list that holds what was read, and each has that program at step k
 pub record FailsAtStep (texts : RestTexts) (k : ℕ) (log : List Reading) : Type 0 where
-  pub job : Job
+  pub job : JobFields
   pub step : Step
   pub before : ReadsToStep texts job step k
   pub last : LastFails step.program log
@@ -147,18 +147,18 @@ pub record FailsAtStep (texts : RestTexts) (k : ℕ) (log : List Reading) : Type
 -- ---- the verdict
 
 -- files that are accepted cut safely, each with its own cutter
-abbrev pub AreSafe : Job → List Tri → List CutFile → ListVerdict → Type 0
+abbrev pub AreSafe : JobFields → List Tri → List CutFile → ListVerdict → Type 0
 AreSafe job part files (Accept count moves columns left) = FilesCutSafely job part files
 AreSafe job part files _ = Unit {0}
 
 -- a leaf that a rejection names is one of the last of its move, and blocked: by the triangle that is named, or by the point at which the column that is named is tested
 -- on the stock that the files before it left
-abbrev pub IsFileNamed : Job → List Tri → List CutFile → ListVerdict → Type 0
+abbrev pub IsFileNamed : JobFields → List Tri → List CutFile → ListVerdict → Type 0
 IsFileNamed job part files (Reject f reason) = NamesLeaf (job_of job (file_at files f)) part (stock_before job files f) (file_at files f).moves reason
 IsFileNamed job part files _ = Unit {0}
 
 -- all is read, job and files are in their ranges, this is the verdict on the files, and if they are accepted they cut safely; what a rejection names blocks the move
-pub record JudgesFiles (texts : RestTexts) (job : Job) (part : List Tri) (steps : List Step) (files : List CutFile) (verdict : ListVerdict) : Type 0 where
+pub record JudgesFiles (texts : RestTexts) (job : JobFields) (part : List Tri) (steps : List Step) (files : List CutFile) (verdict : ListVerdict) : Type 0 where
   pub all_read : ReadsRest texts job part steps files
   pub job_ok : IsJob job
   pub files_ok : All (IsFileOf job) files
@@ -179,7 +179,7 @@ NamesFileMove files (Reject f reason) = (f < length files) × NamesMove (file_at
 NamesFileMove files _ = Unit {0}
 
 -- the line of a verdict, with lengths in the job's unit; a reason counts the moves of its file
-abbrev pub list_line : Job → List CutFile → ListVerdict → List ℕ
+abbrev pub list_line : JobFields → List CutFile → ListVerdict → List ℕ
 list_line job files (Accept count moves columns left) = line (codes "accepted" ∷ codes "files" ∷ decimal count ∷ codes "moves" ∷ decimal moves ∷ codes "columns" ∷ decimal columns ∷ codes "left" ∷ canonical job.unit left ∷ [])
 list_line job files (Reject f reason) = line (codes "rejected" ∷ codes "file" ∷ decimal f ∷ reason_words job.unit (file_at files f).moves reason)
 list_line job files (Left j i top) = line (codes "rejected" ∷ codes "left" ∷ column_words job.unit j i top)

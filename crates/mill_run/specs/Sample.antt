@@ -3,9 +3,9 @@ use Rattle.std.specs.Prelude.{ℕ, ◌*◌, codes, decimal, List, [], ◌∷◌}
 use Rattle.mill_base.specs.declared.unit.Unit.TheVariants.{Hundredth}
 use Rattle.mill_decimal.specs.Decimals.{canonical}
 use Rattle.mill_plan.specs.Plans.{PlanAnswer, IsPlanAnswer, done}
-use Rattle.mill_line.specs.Lines.{line}
+use Rattle.mill_answer.specs.Lines.{line}
 use Rattle.mill_run.specs.Plan.{plan_line, plan_status}
-use Rattle.mill_sample.specs.Sample.{sample_job, sample_part}
+use Rattle.mill_run.specs.SamplePart.{sample_job, sample_part}
 
 -- this is the planner's answer to the sample part of size n and its job
 abbrev pub Samples : ℕ → PlanAnswer → Type 0

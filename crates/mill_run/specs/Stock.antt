@@ -5,11 +5,11 @@ use Rattle.mill_base.specs.declared.motion.Move.{Move}
 use Rattle.mill_base.specs.declared.points.Tri.{Tri}
 use Rattle.mill_dexel.specs.Tops.{top_point}
 use Rattle.mill_job.specs.Jobs.{IsJob}
-use Rattle.mill_job.specs.declared.job.Job.{Job}
+use Rattle.mill_job.specs.declared.fields.JobFields.{JobFields}
 use Rattle.mill_block.specs.declared.fault.NgcFault.{NgcFault}
 use Rattle.mill_stl.specs.Written.{ReadsBack, part_text}
 use Rattle.mill_surface.specs.Surfaces.{HasManyTriangles, surface_of}
-use Rattle.mill_line.specs.Lines.{line}
+use Rattle.mill_answer.specs.Lines.{line}
 use Rattle.mill_load.specs.declared.file.File.{File}
 use Rattle.mill_load.specs.declared.file.File.TheVariants.{Job as JobFile, Program as ProgramFile}
 use Rattle.mill_load.specs.declared.load.Unfit.{Unfit}
@@ -34,11 +34,11 @@ pub record AreStockTold (texts : StockTexts) : Type 0 where
   pub program : IsSome texts.program
 
 -- where the job's file is told, it reads as this job
-abbrev pub ReadsStockJob : StockTexts → Job → Type 0
+abbrev pub ReadsStockJob : StockTexts → JobFields → Type 0
 ReadsStockJob texts job = IfSome texts.job (λ text. IsJobText text job)
 
 -- each of the two files, where it is told, reads as this job and, from its home and in its unit, as these moves
-pub record ReadsStock (texts : StockTexts) (job : Job) (moves : List Move) : Type 0 where
+pub record ReadsStock (texts : StockTexts) (job : JobFields) (moves : List Move) : Type 0 where
   pub job_is : ReadsStockJob texts job
   pub moves_are : IfSome texts.program (λ text. IsProgramText job text moves)
 
@@ -46,13 +46,13 @@ pub record ReadsStock (texts : StockTexts) (job : Job) (moves : List Move) : Typ
 
 -- the job is read; where the program's file is told, it is too long
 pub record LongStockProgram (texts : StockTexts) : Type 0 where
-  pub job : Job
+  pub job : JobFields
   pub job_is : ReadsStockJob texts job
   pub long : IfSome texts.program IsTooLong
 
 -- the job is read; where the program's file is told, it is refused
 pub record RefusesStockProgram (texts : StockTexts) (fault : NgcFault) : Type 0 where
-  pub job : Job
+  pub job : JobFields
   pub job_is : ReadsStockJob texts job
   pub refused : IfSome texts.program (λ text. IsRefusedProgram job text fault)
 
@@ -67,7 +67,7 @@ IsUnfitStock texts _ = ⊥
 -- all that is read and checked before the job's or the program's file holds
 abbrev pub IsReadBeforeStock : StockTexts → File → Type 0
 IsReadBeforeStock texts JobFile = Unit {0}
-IsReadBeforeStock texts ProgramFile = (job : Job) × ReadsStockJob texts job
+IsReadBeforeStock texts ProgramFile = (job : JobFields) × ReadsStockJob texts job
 IsReadBeforeStock texts _ = ⊥
 
 -- ---- the answers
@@ -78,11 +78,11 @@ pub data StockAnswer : Type 0 where
   too_many_triangles : ℕ → StockAnswer
 
 -- the surface of the job's stock after the moves: its corners are the points at the columns' tops
-abbrev pub stock_surface : Job → List Move → List Tri
+abbrev pub stock_surface : JobFields → List Move → List Tri
 stock_surface job moves = surface_of job (top_point job moves)
 
 -- the text is that of the surface after the moves, which has so many triangles and no more than a part may have; in the job's unit it reads back as the surface, none of its coordinates rounded
-pub record IsSurface (job : Job) (moves : List Move) (text : List ℕ) (count : ℕ) : Type 0 where
+pub record IsSurface (job : JobFields) (moves : List Move) (text : List ℕ) (count : ℕ) : Type 0 where
   pub text_is : text ≡ part_text job.unit (stock_surface job moves)
   pub count_is : count ≡ length (stock_surface job moves)
   pub few : count ≤ MAX_TRIANGLES
@@ -90,12 +90,12 @@ pub record IsSurface (job : Job) (moves : List Move) (text : List ℕ) (count : 
   pub reads : ReadsBack job.unit (stock_surface job moves) text
 
 -- the answer to a job and moves: the surface; or that it is too large, which the job alone decides
-abbrev pub IsStockAnswer : Job → List Move → StockAnswer → Type 0
+abbrev pub IsStockAnswer : JobFields → List Move → StockAnswer → Type 0
 IsStockAnswer job moves (drawn text count) = IsSurface job moves text count
 IsStockAnswer job moves (too_many_triangles count) = HasManyTriangles job count
 
 -- job and program are read, both are in their ranges, and this is the answer to them
-pub record DrawsStock (texts : StockTexts) (job : Job) (moves : List Move) (answer : StockAnswer) : Type 0 where
+pub record DrawsStock (texts : StockTexts) (job : JobFields) (moves : List Move) (answer : StockAnswer) : Type 0 where
   pub all_read : ReadsStock texts job moves
   pub job_ok : IsJob job
   pub moves_ok : AreMoves job moves

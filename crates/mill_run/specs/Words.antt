@@ -1,12 +1,7 @@
 -- What the words of the command line ask for.
 use Rattle.std.specs.Prelude.{◌≡◌, ◌⊎◌, ℕ, false, List, Some}
+use Rattle.mill_answer.specs.Verify.{Files}
 use Rattle.mill_command.specs.Requests.{is_taken, request, verify, plan, drop, level, stock, rest, sample}
-
--- the names of the job's, the part's and the program's file
-pub record Files : Type 0 where
-  pub job : List ℕ
-  pub part : List ℕ
-  pub program : List ℕ
 
 -- the words are taken as `verify` with these files, with any number of workers
 abbrev pub AsksVerify : List (List ℕ) → Files → Type 0

@@ -3,11 +3,11 @@ ghost use Rattle.std.specs.Prelude.{◌≡◌, ◌-◌, ◌^◌, ◌<◌, ℕ, m
 ghost use Rattle.mill_command.specs.Requests.{IsBounded, request_of, sample as asks_sample};
 ghost use Rattle.mill_io.specs.Readings.{AreHeld};
 ghost use Rattle.mill_io.specs.Views.{ReadsOnly};
-ghost use Rattle.mill_run.specs.Calls.{CanCount, BlamesReads, BlamesWrites, call_of};
+ghost use Rattle.mill_answer.specs.Calls.{CanCount, BlamesReads, BlamesWrites, call_of};
 ghost use Rattle.mill_run.specs.Headline.{Answers, Completes, Untaken, Headline, PlanHeadline, StockHeadline, RestHeadline};
 ghost use Rattle.mill_run.specs.Outcomes.{HasOutcome, Serves};
 ghost use Rattle.mill_run.specs.inner.Prints.{PrintsOutcome, refusal_outcome};
-ghost use Rattle.mill_load.specs.Statuses.{status_code};
+ghost use Rattle.mill_answer.specs.Statuses.{status_code};
 ghost use Rattle.mill_run.specs.Words.{AsksNoFile, AsksNoFileStored};
 
 use crate::drop::drop_cutter;
@@ -17,9 +17,9 @@ use crate::rest::verify_files;
 use crate::sample::sample;
 use crate::stock::stock_program;
 use crate::verify::verify_program;
+use mill_answer::{Status, tell, tell_memory};
 use mill_command::{Command, Refusal, read_words};
 use mill_io::{Shelf, Sink};
-use mill_load::{Status, tell, tell_memory};
 use mill_verify::{one_list_verdict, one_verdict};
 use std::alloc::Global;
 use std::thread::Threads;

@@ -1,23 +1,21 @@
 //! The command `drop`: how low the tool comes at one place.
 ghost use Rattle.std.specs.Prelude.{◌≡◌, ◌-◌, ◌^◌, ◌<◌, IfOk};
 ghost use Rattle.mill_command.specs.Requests.{drop as asks_drop};
-ghost use Rattle.mill_run.specs.Calls.{CanCount, call_of};
+ghost use Rattle.mill_answer.specs.Calls.{CanCount, call_of};
 ghost use Rattle.mill_run.specs.Drop.{height_line};
 ghost use Rattle.mill_load.specs.Loads.{IsSetup};
 ghost use Rattle.mill_job.specs.Tables.{IsPlace};
 ghost use Rattle.mill_run.specs.Outcomes.{Serves};
 ghost use Rattle.mill_run.specs.inner.Prints.{PrintsHeight};
-ghost use Rattle.mill_load.specs.Statuses.{status_code};
+ghost use Rattle.mill_answer.specs.Statuses.{status_code};
 
+use mill_answer::Word::{Length, Text};
+use mill_answer::{Status, line_of, line_of_word_fault, tell_fault, tell_made};
 use mill_base::{Unit, WantOfMemory};
 use mill_drop::drop_once;
 use mill_io::{Shelf, Sink};
 use mill_job::Place;
-use mill_line::Word::{Length, Text};
-use mill_line::line_of;
-use mill_load::{
-    Setup, Status, line_of_word_fault, load_job, load_under, read_place, tell_fault, tell_made,
-};
+use mill_load::{Setup, load_job, load_under, read_place};
 use std::alloc::Global;
 
 /// The work of `drop`: reads the job, then the place in the job's unit, then the part, and prints
@@ -39,7 +37,7 @@ pub fn drop_cutter<S: Shelf, O: Sink>(
         Ok(job) => job,
         Err(fault) => return tell_fault(alloc, fault, out),
     };
-    let place = match read_place(x, y, job.unit) {
+    let place = match read_place(x, y, job.fields.unit) {
         Ok(place) => place,
         Err(fault) => return tell_made(line_of_word_fault(alloc, fault), Status::Refused, out),
     };
@@ -52,15 +50,19 @@ pub fn drop_cutter<S: Shelf, O: Sink>(
 /// Prints the drop height at a place.
 fn tell_drop<O: Sink>(alloc: Global, setup: &Setup, place: Place, out: &mut O) -> Status
     requires ready { IsSetup setup.now }
-    requires place_ok { IsPlace setup.now.job.unit place }
+    requires place_ok { IsPlace setup.now.job.fields.unit place }
     requires prints { (O.shows out.old).faults < 2 ^ 64 - 1 }
     ensures { PrintsHeight setup.now place (status_code result)
         (O.shows out.old) (O.shows out.new) }
 {
     let job = &setup.job;
     let tool = job.tool();
-    let height = drop_once(&setup.part, &tool, place.x, place.y, job.floor);
-    tell_made(line_of_height(alloc, height, job.unit), Status::Done, out)
+    let height = drop_once(&setup.part, &tool, place.x, place.y, job.fields.floor);
+    tell_made(
+        line_of_height(alloc, height, job.fields.unit),
+        Status::Done,
+        out,
+    )
 }
 
 /// The line of a drop height.

@@ -1,18 +1,16 @@
 //! The end of the program: its exit status.
 ghost use Rattle.std.specs.Prelude.{◌≡◌, IfErr, IfOk, map, string_bytes};
-ghost use Rattle.std.specs.Process.{exit_status};
-ghost use Rattle.mill_load.specs.Statuses.{status_code};
 ghost use Rattle.mill_io.specs.Readings.{AreHeld};
 ghost use Rattle.mill_io.specs.Views.{ReadsOnly};
-ghost use Rattle.mill_run.specs.Calls.{BlamesFaults, CanCount, ended_call};
-ghost use Rattle.mill_run.specs.Headline.{Answers, Completes, Headlines, Untaken};
+ghost use Rattle.mill_answer.specs.Calls.{BlamesFaults, CanCount, ended_call};
+ghost use Rattle.mill_run.specs.Headline.{Headlines, Replies};
 ghost use Rattle.mill_run.specs.Outcomes.{HasOutcome, Shows, no_memory};
 ghost use Rattle.mill_run.specs.Words.{AsksNoFile, AsksNoFileStored};
 
 use crate::commands::run;
+use mill_answer::{exit_code_of, tell_memory};
 use mill_base::WantOfMemory;
 use mill_io::{Shelf, Sink};
-use mill_load::{Status, tell_memory};
 use std::alloc::Global;
 use std::process::ExitCode;
 use std::thread::Threads;
@@ -56,14 +54,8 @@ pub fn end<R: Threads + Sync, S: Shelf, O: Sink>(
         (S.shows shelf.old) (S.shows shelf.new) (O.shows out.old) (O.shows out.new))) }
 
     // From bytes to bytes: where nothing of the outside failed and memory was enough.
-    ensures answers { IfOk words (λ words.
-        Answers (map string_bytes words.items) (ended_call result
-        (S.shows shelf.old) (S.shows shelf.new) (O.shows out.old) (O.shows out.new))) }
-    ensures completes { IfOk words (λ words.
-        Completes (map string_bytes words.items) (ended_call result
-        (S.shows shelf.old) (S.shows shelf.new) (O.shows out.old) (O.shows out.new))) }
-    ensures untaken { IfOk words (λ words.
-        Untaken (map string_bytes words.items) (ended_call result
+    ensures replies { IfOk words (λ words.
+        Replies (map string_bytes words.items) (ended_call result
         (S.shows shelf.old) (S.shows shelf.new) (O.shows out.old) (O.shows out.new))) }
 
     // What 0 and 3 mean of `verify` and of `rest`, and 0 of `plan` and of `stock`.
@@ -79,11 +71,4 @@ pub fn end<R: Threads + Sync, S: Shelf, O: Sink>(
         Ok(words) => exit_code_of(run(rt, alloc, &words, shelf, out)),
         Err(WantOfMemory) => exit_code_of(tell_memory(out)),
     }
-}
-
-/// The code that a process ends with that has this status.
-pub fn exit_code_of(status: Status) -> ExitCode
-    ensures { exit_status result ≡ status_code status }
-{
-    ExitCode::from(status.code())
 }

@@ -1,8 +1,9 @@
 ghost use Rattle.mill_run.specs.Laws.{OneAnswer};
 
+use mill_answer::one_judgment;
 use mill_level::one_waterline;
 use mill_plan::one_plan_answer;
-use mill_verify::{one_list_verdict, one_verdict};
+use mill_verify::one_list_verdict;
 
 /// A request has at most one answer on files that are told.
 ///
@@ -12,9 +13,9 @@ use mill_verify::{one_list_verdict, one_verdict};
 pub fn one_answer()
     ensures { OneAnswer }
 {
-    // Laws without code: there is at most one verdict, on a program and on a list of them, one answer of
-    // the planner and one waterline.
-    one_verdict();
+    // Laws without code: there is at most one judgment on a program, one verdict on a list of them, one
+    // answer of the planner and one waterline.
+    one_judgment();
     one_list_verdict();
     one_plan_answer();
     one_waterline();

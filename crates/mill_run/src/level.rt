@@ -8,22 +8,21 @@ ghost use Rattle.mill_job.specs.Jobs.{tool_of};
 ghost use Rattle.mill_level.specs.Waterlines.{HasManyNodes, IsWaterline, seen};
 ghost use Rattle.mill_level.specs.declared.fault.LevelFault.TheVariants.{TooManyNodes};
 ghost use Rattle.mill_paths.specs.Lattices.{finish_lattice as finish_lattice_of};
-ghost use Rattle.mill_run.specs.Calls.{CanCount, call_of};
+ghost use Rattle.mill_answer.specs.Calls.{CanCount, call_of};
 ghost use Rattle.mill_run.specs.Level.{closed_word, outline_text, outlines_text, point_line};
 ghost use Rattle.mill_load.specs.Loads.{IsSetup};
 ghost use Rattle.mill_run.specs.Outcomes.{Serves};
 ghost use Rattle.mill_run.specs.inner.Prints.{TriesLevel};
-ghost use Rattle.mill_load.specs.Statuses.{status_code};
+ghost use Rattle.mill_answer.specs.Statuses.{status_code};
 
+use mill_answer::Word::{Length, Number, Text};
+use mill_answer::{
+    Status, add_line, line_of_nodes, line_of_word_fault, tell_fault, tell_made, tell_memory,
+};
 use mill_base::{Pt3, Unit, WantOfMemory};
 use mill_io::{Shelf, Sink};
 use mill_level::{Chain, LevelFault, waterline};
-use mill_line::Word::{Length, Number, Text};
-use mill_line::add_line;
-use mill_load::{
-    Setup, Status, line_of_nodes, line_of_word_fault, load_job, load_under, read_height,
-    tell_fault, tell_made, tell_memory,
-};
+use mill_load::{Setup, load_job, load_under, read_height};
 use mill_part::SortedPart;
 use mill_paths::finish_lattice;
 use std::alloc::Global;
@@ -46,29 +45,26 @@ pub fn level_part<S: Shelf, O: Sink>(
         Ok(job) => job,
         Err(fault) => return tell_fault(alloc, fault, out),
     };
-    let height = match read_height(z, job.unit) {
+    let height = match read_height(z, job.fields.unit) {
         Ok(height) => height,
         Err(fault) => return tell_made(line_of_word_fault(alloc, fault), Status::Refused, out),
     };
     match load_under(alloc, shelf, job, part) {
-        Ok(setup) => tell_level(alloc, &setup, height, out),
+        Ok(setup) => tell_level(alloc, setup, height, out),
         Err(fault) => tell_fault(alloc, fault, out),
     }
 }
 
 /// Prints the chains at a height, or why there are none.
-fn tell_level<O: Sink>(alloc: Global, setup: &Setup, height: i32, out: &mut O) -> Status
-    requires ready { IsSetup setup.now }
+fn tell_level<O: Sink>(alloc: Global, setup: Setup, height: i32, out: &mut O) -> Status
+    requires ready { IsSetup setup }
     requires height_ok { Within MAX_COORDINATE height }
     requires prints { (O.shows out.old).faults < 2 ^ 64 - 1 }
-    ensures { TriesLevel setup.now height (status_code result) (O.shows out.old) (O.shows out.new) }
+    ensures { TriesLevel setup height (status_code result) (O.shows out.old) (O.shows out.new) }
 {
+    let unit = setup.job.fields.unit;
     match chains_at(alloc, setup, height) {
-        Ok(chains) => tell_made(
-            text_of_chains(alloc, &chains, setup.job.unit),
-            Status::Done,
-            out,
-        ),
+        Ok(chains) => tell_made(text_of_chains(alloc, &chains, unit), Status::Done, out),
         Err(LevelFault::TooManyNodes { nodes }) => {
             tell_made(line_of_nodes(alloc, nodes), Status::TooLarge, out)
         }
@@ -77,21 +73,20 @@ fn tell_level<O: Sink>(alloc: Global, setup: &Setup, height: i32, out: &mut O) -
 }
 
 /// The chains at a height, over the job's area by steps of its raster.
-fn chains_at(alloc: Global, setup: &Setup, height: i32) -> Result<Vec<Chain>, LevelFault>
-    requires ready { IsSetup setup.now }
+fn chains_at(alloc: Global, setup: Setup, height: i32) -> Result<Vec<Chain>, LevelFault>
+    requires ready { IsSetup setup }
     requires height_ok { Within MAX_COORDINATE height }
-    ensures chains { IfOk result (λ chains. IsWaterline (tool_of setup.now.job) setup.now.part height
-        (finish_lattice_of setup.now.job) (map_list seen chains.items)) }
-    ensures few { IfOk result (λ _. node_count (finish_lattice_of setup.now.job) ≤ MAX_NODES) }
+    ensures chains { IfOk result (λ chains. IsWaterline (tool_of setup.job.fields) setup.part height
+        (finish_lattice_of setup.job.fields) (map_list seen chains.items)) }
+    ensures few { IfOk result (λ _. node_count (finish_lattice_of setup.job.fields) ≤ MAX_NODES) }
     ensures nodes { (nodes : ℕ) → IsErrOf result (TooManyNodes nodes)
-        → HasManyNodes (finish_lattice_of setup.now.job) nodes }
+        → HasManyNodes (finish_lattice_of setup.job.fields) nodes }
 {
-    let job = &setup.job;
-    let part = &setup.part;
-    let sorted = SortedPart::new(alloc, part)?;
-    let lattice = finish_lattice(job);
+    let job = setup.job;
+    let part = SortedPart::new(alloc, setup.part)?;
+    let lattice = finish_lattice(&job);
     let tool = job.tool();
-    waterline(alloc, part, sorted.cells(), &tool, height, &lattice)
+    waterline(alloc, &part, &tool, height, &lattice)
 }
 
 /// The text of all chains.

@@ -1,13 +1,12 @@
 //! All that the program does: `verify`, `rest`, `plan`, `drop`, `level`, `stock` and `sample`.
 //!
-//! It stands on `mill_load` for the files, on `mill_command` for the words, and on the crates that
-//! do the work. `run` takes the words of a call, over any store of files, and prints its answer to
+//! It stands on `mill_load` for the files, on `mill_command` for the words, on `mill_answer` for lines
+//! and statuses, and on the crates that do the work. `run` takes the words of a call, over any store of files, and prints its answer to
 //! any sink; its contract goes from bytes to bytes, whatever the files hold, if they hold what the
 //! reads gave: `specs/Answers` says which answer a command has on its files, `specs/Outcomes` how
 //! it is shown and stored, `specs/Headline` what it means.
 //! Each command has a file here and a module in `specs/`. `one_answer` is the law that a request has
-//! one answer, and `end` gives the process its exit status. Another program shows a verdict by
-//! `line_of_verdict` and `status_of_verdict`.
+//! one answer, and `end` gives the process its exit status.
 #![tactic(auto)]
 
 mod commands;
@@ -18,10 +17,11 @@ mod level;
 mod plan;
 mod rest;
 mod sample;
+mod sample_part;
 mod stock;
 mod verify;
 
 pub use commands::run;
-pub use ending::{end, exit_code_of};
+pub use ending::end;
 pub use laws::one_answer;
-pub use verify::{line_of_verdict, status_of_verdict};
+pub use sample_part::sample_setup;

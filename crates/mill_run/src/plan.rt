@@ -3,23 +3,24 @@ ghost use Rattle.std.specs.Prelude.{◌≡◌, ◌-◌, ◌^◌, ◌<◌, IfOk};
 ghost use Rattle.mill_command.specs.Requests.{plan as asks_plan};
 ghost use Rattle.mill_plan.specs.Plans.{answer_of};
 ghost use Rattle.mill_run.specs.Answers.{planned as planned_answer};
-ghost use Rattle.mill_run.specs.Calls.{CanCount, call_of};
+ghost use Rattle.mill_answer.specs.Calls.{CanCount, call_of};
 ghost use Rattle.mill_run.specs.inner.Loads.{AreWorkers};
 ghost use Rattle.mill_load.specs.Loads.{IsSetup};
 ghost use Rattle.mill_run.specs.Outcomes.{Serves, ShowsOr, answered};
 ghost use Rattle.mill_run.specs.Plan.{held_line, plan_line};
 ghost use Rattle.mill_run.specs.inner.Prints.{PrintsPlanFault, ShowsPlanOr};
-ghost use Rattle.mill_load.specs.Statuses.{status_code};
+ghost use Rattle.mill_answer.specs.Statuses.{status_code};
 
+use mill_answer::Word::{Length, Number, Text};
+use mill_answer::{
+    Status, line_of, line_of_column, line_of_nodes, tell, tell_fault, tell_made, tell_memory,
+};
 use mill_base::{Unit, WantOfMemory};
 use mill_crew::Threaded;
 use mill_io::{Failed, Shelf, Sink, store};
-use mill_line::Word::{Length, Number, Text};
-use mill_line::line_of;
-use mill_load::{
-    Setup, Status, line_of_column, line_of_nodes, load_setup, tell, tell_fault, tell_made,
-    tell_memory,
-};
+use mill_job::Job;
+use mill_load::{Setup, load_setup};
+use mill_part::SortedPart;
 use mill_plan::{PlanFault, Planned, plan};
 use std::alloc::Global;
 use std::thread::Threads;
@@ -42,7 +43,7 @@ pub fn plan_program<R: Threads + Sync, S: Shelf, O: Sink>(
         (call_of result (S.shows shelf.old) (S.shows shelf.new) (O.shows out.old) (O.shows out.new)) }
 {
     match load_setup(alloc, shelf, job, part) {
-        Ok(setup) => tell_plan(rt, alloc, shelf, &setup, name, workers, out),
+        Ok(setup) => tell_plan(rt, alloc, shelf, setup, name, workers, out),
         Err(fault) => tell_fault(alloc, fault, out),
     }
 }
@@ -52,21 +53,25 @@ fn tell_plan<R: Threads + Sync, S: Shelf, O: Sink>(
     rt: &R,
     alloc: Global,
     shelf: &mut S,
-    setup: &Setup,
+    setup: Setup,
     name: &str,
     workers: u32,
     out: &mut O,
 ) -> Status
     requires workers { AreWorkers workers }
-    requires ready { IsSetup setup.now }
+    requires ready { IsSetup setup }
     requires counts { CanCount (S.shows shelf.old) (O.shows out.old) }
-    ensures shown { ShowsPlanOr setup.now name.now
+    ensures shown { ShowsPlanOr setup name.now
         (call_of result (S.shows shelf.old) (S.shows shelf.new) (O.shows out.old) (O.shows out.new)) }
     ensures unread { (S.shows shelf.new).log ≡ (S.shows shelf.old).log }
 {
-    match plan(&Threaded { rt, workers }, alloc, &setup.job, &setup.part) {
-        Ok(planned) => store_plan(alloc, shelf, setup, name, &planned, out),
-        Err(fault) => tell_plan_fault(alloc, fault, setup.job.unit, out),
+    let job = setup.job;
+    let Ok(part) = SortedPart::new(alloc, setup.part) else {
+        return tell_memory(out);
+    };
+    match plan(&Threaded { rt, workers }, alloc, &job, &part) {
+        Ok(planned) => store_plan(alloc, shelf, &job, &part, name, &planned, out),
+        Err(fault) => tell_plan_fault(alloc, fault, job.fields.unit, out),
     }
 }
 
@@ -77,18 +82,19 @@ fn tell_plan<R: Threads + Sync, S: Shelf, O: Sink>(
 fn store_plan<S: Shelf, O: Sink>(
     alloc: Global,
     shelf: &mut S,
-    setup: &Setup,
+    job: &Job,
+    part: &SortedPart,
     name: &str,
     planned: &Planned,
     out: &mut O,
 ) -> Status
     requires counts { CanCount (S.shows shelf.old) (O.shows out.old) }
     ensures shown { ShowsOr (answered
-        (planned_answer setup.now.job setup.now.part name.now (answer_of planned.now)))
+        (planned_answer job.now.fields part.now name.now (answer_of planned.now)))
         (call_of result (S.shows shelf.old) (S.shows shelf.new) (O.shows out.old) (O.shows out.new)) }
     ensures unread { (S.shows shelf.new).log ≡ (S.shows shelf.old).log }
 {
-    let line = match line_of_plan(alloc, planned, setup.job.unit) {
+    let line = match line_of_plan(alloc, planned, job.fields.unit) {
         Ok(line) => line,
         Err(WantOfMemory) => return tell_memory(out),
     };

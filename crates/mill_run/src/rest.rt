@@ -2,11 +2,11 @@
 ghost use Rattle.std.specs.Prelude.{◌≡◌, ◌-◌, ◌^◌, ◌<◌, ◌≤◌, ℕ, List, length, All, IfErr, IfOk, Option, Some};
 ghost use Rattle.mill_command.specs.Requests.{rest as asks_rest};
 ghost use Rattle.mill_io.specs.Readings.{AreHeld};
-ghost use Rattle.mill_job.specs.Jobs.{FitsJob, IsJob};
-ghost use Rattle.mill_list.specs.declared.limits.TheConstants.{MAX_STEPS};
+ghost use Rattle.mill_job.specs.Jobs.{FitsJob};
+ghost use Rattle.mill_job.specs.declared.step_limits.TheConstants.{MAX_STEPS};
 ghost use Rattle.mill_verify.specs.Files.{IsFileOf};
 ghost use Rattle.mill_run.specs.Answers.{judged_files};
-ghost use Rattle.mill_run.specs.Calls.{CanCount, call_of};
+ghost use Rattle.mill_answer.specs.Calls.{CanCount, call_of};
 ghost use Rattle.mill_load.specs.declared.file.File.{File as AnyFile};
 ghost use Rattle.mill_load.specs.declared.file.File.TheVariants.{List as ListFile, StepProgram};
 ghost use Rattle.mill_run.specs.inner.Loads.{AreFilesReady, AreWorkers, FailsInRest, LoadsFiles, LoadsList, StopsAtStep};
@@ -15,21 +15,18 @@ ghost use Rattle.mill_run.specs.Outcomes.{Serves, answered};
 ghost use Rattle.mill_run.specs.inner.Prints.{PrintsOr, TriesListVerdict};
 ghost use Rattle.mill_run.specs.Rest.{NamesFileMove, ReadsStep, ReadsSteps, list_line, list_status, rest_texts};
 ghost use Rattle.mill_load.specs.Setup.{FitsJobFile};
-ghost use Rattle.mill_load.specs.Statuses.{status_code};
+ghost use Rattle.mill_answer.specs.Statuses.{status_code};
 
-use crate::verify::line_of_reason;
+use mill_answer::Word::{Length, Number, Text};
+use mill_answer::{
+    Status, line_of, line_of_column, line_of_reason, tell_fault, tell_made, tell_memory,
+};
 use mill_base::WantOfMemory;
 use mill_crew::Threaded;
 use mill_io::{Shelf, Sink};
-use mill_job::{Job, JobFault};
-use mill_line::Word::{Length, Number, Text};
-use mill_line::line_of;
-use mill_list::{Step, read_list};
-use mill_load::{
-    File, LoadFault, Status, Unfit, line_of_column, load_program, load_setup, read_file,
-    tell_fault, tell_made, tell_memory,
-};
-use mill_part::Part;
+use mill_job::{Job, JobFault, Step, read_list};
+use mill_load::{File, LoadFault, Unfit, load_program, load_setup, read_file};
+use mill_part::SortedPart;
 use mill_verify::{CutFile, ListVerdict, verify_list};
 use std::alloc::Global;
 use std::thread::Threads;
@@ -39,7 +36,7 @@ use std::thread::Threads;
 #[derive(Drop)]
 pub struct Listed {
     pub job: Job,
-    pub part: Part,
+    pub part: SortedPart,
     pub steps: Vec<Step>,
     pub files: Vec<CutFile>,
 }
@@ -67,8 +64,8 @@ pub fn verify_files<R: Threads + Sync, S: Shelf, O: Sink>(
     }
 }
 
-/// Reads the job, the part, the list and the program of each of its steps, in this order, and checks
-/// the part's top before the list. The first that fails ends it.
+/// Reads the job, the part, the list and the program of each of its steps, in this order, checks the
+/// part's top before the list, and then sorts the part. The first that fails ends it.
 fn load_files<S: Shelf>(
     alloc: Global,
     shelf: &mut S,
@@ -99,9 +96,12 @@ fn load_files<S: Shelf>(
         Ok(files) => files,
         Err(fault) => return Err(fault),
     };
+    let Ok(part) = SortedPart::new(alloc, setup.part) else {
+        return Err(LoadFault::Memory);
+    };
     Ok(Listed {
         job: setup.job,
-        part: setup.part,
+        part,
         steps,
         files,
     })
@@ -116,8 +116,8 @@ fn load_list<S: Shelf>(
 ) -> Result<Vec<Step>, LoadFault>
     ensures told { (contents : List ℕ → Option (List ℕ)) →
         AreHeld contents (S.shows shelf.old).log (S.shows shelf.new).log →
-        LoadsList job.now (contents name.now) result }
-    ensures fit { IfOk result (λ steps. All (λ step. FitsJob job.now step.cutter) steps.items) }
+        LoadsList job.now.fields (contents name.now) result }
+    ensures fit { IfOk result (λ steps. All (λ step. FitsJob job.now.fields step.cutter) steps.items) }
     ensures few { IfOk result (λ steps. length steps.items ≤ MAX_STEPS) }
     ensures failed { (names : AnyFile → List ℕ) → names ListFile ≡ name.now →
         IfErr result (NamesFault names (S.shows shelf.new).log) }
@@ -131,8 +131,8 @@ fn load_list<S: Shelf>(
 
 fn list_from(alloc: Global, text: &[u8], job: &Job) -> Result<Vec<Step>, LoadFault>
     requires { FitsJobFile text.now }
-    ensures told { LoadsList job.now (Some text.now) result }
-    ensures fit { IfOk result (λ steps. All (λ step. FitsJob job.now step.cutter) steps.items) }
+    ensures told { LoadsList job.now.fields (Some text.now) result }
+    ensures fit { IfOk result (λ steps. All (λ step. FitsJob job.now.fields step.cutter) steps.items) }
     ensures few { IfOk result (λ steps. length steps.items ≤ MAX_STEPS) }
     ensures cause { CountsFault 0 0 result }
 {
@@ -150,16 +150,15 @@ fn load_steps<S: Shelf>(
     steps: &[Step],
     job: &Job,
 ) -> Result<Vec<CutFile>, LoadFault>
-    requires job_ok { IsJob job.now }
-    requires fit { All (λ step. FitsJob job.now step.cutter) steps.now }
+    requires fit { All (λ step. FitsJob job.now.fields step.cutter) steps.now }
     requires few { length steps.now ≤ MAX_STEPS }
     ensures read { (contents : List ℕ → Option (List ℕ)) →
         AreHeld contents (S.shows shelf.old).log (S.shows shelf.new).log →
-        IfOk result (λ files. ReadsSteps contents job.now steps.now files.items) }
+        IfOk result (λ files. ReadsSteps contents job.now.fields steps.now files.items) }
     ensures fault { (contents : List ℕ → Option (List ℕ)) →
         AreHeld contents (S.shows shelf.old).log (S.shows shelf.new).log →
-        IfErr result (StopsAtStep contents job.now steps.now (S.shows shelf.new).log) }
-    ensures ready { IfOk result (λ files. All (IsFileOf job.now) files.items) }
+        IfErr result (StopsAtStep contents job.now.fields steps.now (S.shows shelf.new).log) }
+    ensures ready { IfOk result (λ files. All (IsFileOf job.now.fields) files.items) }
     ensures few { IfOk result (λ files. length files.items ≤ MAX_STEPS) }
     ensures store { OnlyLoads (S.shows shelf.old) (S.shows shelf.new) result }
 {
@@ -184,17 +183,16 @@ fn load_step<S: Shelf>(
     job: &Job,
     number: u32,
 ) -> Result<CutFile, LoadFault>
-    requires job_ok { IsJob job.now }
-    requires fits { FitsJob job.now step.now.cutter }
+    requires { FitsJob job.now.fields step.now.cutter }
     ensures read { (contents : List ℕ → Option (List ℕ)) →
         AreHeld contents (S.shows shelf.old).log (S.shows shelf.new).log →
-        IfOk result (ReadsStep contents job.now step.now) }
+        IfOk result (ReadsStep contents job.now.fields step.now) }
     ensures fault { (contents : List ℕ → Option (List ℕ)) →
         AreHeld contents (S.shows shelf.old).log (S.shows shelf.new).log →
         IfErr result (λ fault.
-        LoadsProgram job.now (contents step.now.program) (StepProgram number) (Err fault)) }
+        LoadsProgram job.now.fields (contents step.now.program) (StepProgram number) (Err fault)) }
     ensures failed { IfErr result (NamesFault (λ file. step.now.program) (S.shows shelf.new).log) }
-    ensures ready { IfOk result (IsFileOf job.now) }
+    ensures ready { IfOk result (IsFileOf job.now.fields) }
     ensures store { OnlyLoads (S.shows shelf.old) (S.shows shelf.new) result }
 {
     let program = step.program.as_str();
@@ -237,7 +235,7 @@ fn tell_line_of_list<O: Sink>(
     requires names { NamesFileMove listed.now.files.items verdict }
     requires prints { (O.shows out.old).faults < 2 ^ 64 - 1 }
     ensures { PrintsOr
-        (answered (judged_files listed.now.job listed.now.part listed.now.steps.items
+        (answered (judged_files listed.now.job.fields listed.now.part listed.now.steps.items
         listed.now.files.items verdict))
         (status_code result) (O.shows out.old) (O.shows out.new) }
 {
@@ -263,7 +261,7 @@ fn line_of_list_verdict(
     verdict: ListVerdict,
 ) -> Result<Vec<u8>, WantOfMemory>
     requires { NamesFileMove files.now verdict }
-    ensures { IfOk result (λ made. made.items ≡ list_line job.now files.now verdict) }
+    ensures { IfOk result (λ made. made.items ≡ list_line job.now.fields files.now verdict) }
 {
     match verdict {
         ListVerdict::Accept {
@@ -280,14 +278,14 @@ fn line_of_list_verdict(
                 Text(b"columns"),
                 Number(columns),
                 Text(b"left"),
-                Length(most_left, job.unit),
+                Length(most_left, job.fields.unit),
             ];
             line_of(alloc, &[Text(b"accepted")], &words)
         }
         ListVerdict::Reject { file, reason } => {
             let start = [Text(b"rejected"), Text(b"file"), Number(u64::from(file))];
             let rejected = &files[file as usize];
-            line_of_reason(alloc, &start, &rejected.moves, reason, job.unit)
+            line_of_reason(alloc, &start, &rejected.moves, reason, job.fields.unit)
         }
         ListVerdict::Left { row, col, top } => {
             line_of_column(
@@ -297,7 +295,7 @@ fn line_of_list_verdict(
                 row,
                 col,
                 top,
-                job.unit,
+                job.fields.unit,
             )
         }
     }

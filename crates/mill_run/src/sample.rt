@@ -1,33 +1,34 @@
 //! The command `sample`: the sample part of a size that is asked for, planned and verified.
 ghost use Rattle.std.specs.Prelude.{◌≡◌, ◌-◌, ◌^◌, ◌<◌, List, [], IfOk, Ok};
+ghost use Rattle.mill_base.specs.Covers.{IsUnder};
 ghost use Rattle.mill_base.specs.declared.motion.Move.{Move as OneMove};
 ghost use Rattle.mill_command.specs.Requests.{sample as asks_sample};
 ghost use Rattle.mill_io.specs.Views.{StoreView};
 ghost use Rattle.mill_job.specs.Columns.{home};
-ghost use Rattle.mill_job.specs.Jobs.{IsJob};
 ghost use Rattle.mill_ngc.specs.Programs.{program_of};
 ghost use Rattle.mill_plan.specs.Plans.{IsPlanAnswer, answer_of, done};
-ghost use Rattle.mill_run.specs.Calls.{call_of};
-ghost use Rattle.mill_load.specs.Loads.{AreMoves, IsSetup};
+ghost use Rattle.mill_answer.specs.Calls.{call_of};
+ghost use Rattle.mill_load.specs.Loads.{AreMoves};
 ghost use Rattle.mill_run.specs.inner.Loads.{AreWorkers};
-ghost use Rattle.mill_sample.specs.Sample.{IsSample, IsSize};
+ghost use Rattle.mill_run.specs.SamplePart.{IsSample, IsSize};
 ghost use Rattle.mill_run.specs.Outcomes.{Serves};
 ghost use Rattle.mill_run.specs.Sample.{sample_line};
 ghost use Rattle.mill_run.specs.inner.Prints.{TriesSample};
-ghost use Rattle.mill_load.specs.Statuses.{status_code};
+ghost use Rattle.mill_answer.specs.Statuses.{status_code};
 
 use crate::plan::tell_plan_fault;
+use crate::sample_part::sample_setup;
 use crate::verify::verdict_on;
+use mill_answer::Word::{Length, Number, Text};
+use mill_answer::{Status, line_of, tell_made, tell_memory};
 use mill_base::{Move, Unit, WantOfMemory};
 use mill_crew::Threaded;
 use mill_io::Sink;
 use mill_job::Job;
-use mill_line::Word::{Length, Number, Text};
-use mill_line::line_of;
-use mill_load::{Setup, Status, read_moves, tell_made, tell_memory};
+use mill_load::{Setup, read_moves};
 use mill_ngc::NgcFault;
+use mill_part::SortedPart;
 use mill_plan::{Planned, plan};
-use mill_sample::sample_setup;
 use mill_verify::{Verdict, one_verdict};
 use std::alloc::Global;
 use std::thread::Threads;
@@ -50,7 +51,7 @@ pub fn sample<R: Threads + Sync, O: Sink>(
         (call_of result store store (O.shows out.old) (O.shows out.new)) }
 {
     match sample_setup(alloc, size) {
-        Ok(setup) => tell_sample(rt, alloc, size, &setup, workers, out),
+        Ok(setup) => tell_sample(rt, alloc, size, setup, workers, out),
         Err(WantOfMemory) => tell_memory(out),
     }
 }
@@ -60,17 +61,21 @@ fn tell_sample<R: Threads + Sync, O: Sink>(
     rt: &R,
     alloc: Global,
     size: u32,
-    setup: &Setup,
+    setup: Setup,
     workers: u32,
     out: &mut O,
 ) -> Status
-    requires setup_ok { IsSample size setup.now }
+    requires setup_ok { IsSample size setup.job.fields setup.part }
     requires workers { AreWorkers workers }
     requires prints { (O.shows out.old).faults < 2 ^ 64 - 1 }
     ensures { TriesSample size (status_code result) (O.shows out.old) (O.shows out.new) }
 {
-    match plan(&Threaded { rt, workers }, alloc, &setup.job, &setup.part) {
-        Ok(planned) => tell_planned(rt, alloc, size, setup, &planned, workers, out),
+    let job = setup.job;
+    let Ok(part) = SortedPart::new(alloc, setup.part) else {
+        return tell_memory(out);
+    };
+    match plan(&Threaded { rt, workers }, alloc, &job, &part) {
+        Ok(planned) => tell_planned(rt, alloc, size, &job, &part, &planned, workers, out),
         Err(fault) => tell_plan_fault(alloc, fault, Unit::Hundredth, out),
     }
 }
@@ -80,18 +85,19 @@ fn tell_planned<R: Threads + Sync, O: Sink>(
     rt: &R,
     alloc: Global,
     size: u32,
-    setup: &Setup,
+    job: &Job,
+    part: &SortedPart,
     planned: &Planned,
     workers: u32,
     out: &mut O,
 ) -> Status
-    requires setup_ok { IsSample size setup.now }
-    requires planned_ok { IsPlanAnswer setup.now.job setup.now.part (answer_of planned.now) }
+    requires sample_ok { IsSample size job.now.fields part.now }
+    requires planned_ok { IsPlanAnswer job.now.fields part.now (answer_of planned.now) }
     requires workers { AreWorkers workers }
     requires prints { (O.shows out.old).faults < 2 ^ 64 - 1 }
     ensures { TriesSample size (status_code result) (O.shows out.old) (O.shows out.new) }
 {
-    match verified(rt, alloc, setup, planned, workers) {
+    match verified(rt, alloc, job, part, planned, workers) {
         Ok(
             Verdict::Accept {
                 moves,
@@ -112,28 +118,28 @@ fn tell_planned<R: Threads + Sync, O: Sink>(
 fn verified<R: Threads + Sync>(
     rt: &R,
     alloc: Global,
-    setup: &Setup,
+    job: &Job,
+    part: &SortedPart,
     planned: &Planned,
     workers: u32,
 ) -> Result<Verdict, WantOfMemory>
-    requires setup_ok { IsSetup setup.now }
-    requires planned_ok { IsPlanAnswer setup.now.job setup.now.part (answer_of planned.now) }
+    requires under { IsUnder part.now job.now.fields.top }
+    requires planned_ok { IsPlanAnswer job.now.fields part.now (answer_of planned.now) }
     requires workers { AreWorkers workers }
     ensures { IfOk result (λ verdict.
         verdict ≡ Verdict.Accept planned.now.moves planned.now.columns planned.now.most_left) }
 {
     // A law without code: there is at most one verdict, and the plan has one.
     one_verdict();
-    let moves = read_back(alloc, &setup.job, &planned.program)?;
-    verdict_on(rt, alloc, &setup.job, &setup.part, &moves, workers)
+    let moves = read_back(alloc, job, &planned.program)?;
+    verdict_on(rt, alloc, job, part, &moves, workers)
 }
 
 /// The moves of a program's text, which has some.
 fn read_back(alloc: Global, job: &Job, program: &[u8]) -> Result<Vec<Move>, WantOfMemory>
-    requires job_ok { IsJob job.now }
-    requires reads { (moves : List OneMove) × (program_of (home job.now) job.now.unit program.now ≡ Ok moves) }
-    ensures told { IfOk result (λ moves. program_of (home job.now) job.now.unit program.now ≡ Ok moves.items) }
-    ensures ready { IfOk result (λ moves. AreMoves job.now moves.items) }
+    requires { (moves : List OneMove) × (program_of (home job.now.fields) job.now.fields.unit program.now ≡ Ok moves) }
+    ensures told { IfOk result (λ moves. program_of (home job.now.fields) job.now.fields.unit program.now ≡ Ok moves.items) }
+    ensures ready { IfOk result (λ moves. AreMoves job.now.fields moves.items) }
 {
     match read_moves(alloc, program, job) {
         Ok(moves) => Ok(moves),

@@ -7,12 +7,11 @@ ghost use Rattle.mill_command.specs.Requests.{stock as asks_stock};
 ghost use Rattle.mill_dexel.specs.Rows.{IsRowOf};
 ghost use Rattle.mill_dexel.specs.Stocks.{IsStock};
 ghost use Rattle.mill_io.specs.Readings.{AreHeld};
-ghost use Rattle.mill_job.specs.Jobs.{IsJob};
-ghost use Rattle.mill_job.specs.declared.job.Job.{Job as AnyJob};
+ghost use Rattle.mill_job.specs.declared.fields.JobFields.{JobFields as AnyJob};
 ghost use Rattle.mill_surface.specs.Surfaces.{HasManyTriangles};
 ghost use Rattle.mill_surface.specs.declared.fault.SurfaceFault.TheVariants.{TooManyTriangles};
 ghost use Rattle.mill_run.specs.Answers.{stocked};
-ghost use Rattle.mill_run.specs.Calls.{CanCount, call_of};
+ghost use Rattle.mill_answer.specs.Calls.{CanCount, call_of};
 ghost use Rattle.mill_run.specs.inner.Loads.{IsCutting, LoadsCutting};
 ghost use Rattle.mill_load.specs.Loads.{NamesFault, OnlyLoads};
 ghost use Rattle.mill_load.specs.declared.file.File.{File as AnyFile};
@@ -21,15 +20,13 @@ ghost use Rattle.mill_run.specs.Outcomes.{Serves, ShowsOr, answered};
 ghost use Rattle.mill_run.specs.inner.Prints.{ShowsStockOr};
 ghost use Rattle.mill_run.specs.Stock.{IsSurface, drawn as drawn_answer, stock_texts, triangles_line};
 
+use mill_answer::Word::{Number, Text};
+use mill_answer::{Status, line_of, tell, tell_fault, tell_made, tell_memory};
 use mill_base::{MAX_TRIANGLES, Move, WantOfMemory};
 use mill_dexel::{Row, cut_rows, uncut_rows};
 use mill_io::{Failed, Shelf, Sink, store};
 use mill_job::Job;
-use mill_line::Word::{Number, Text};
-use mill_line::line_of;
-use mill_load::{
-    File, LoadFault, Status, load_job, load_program, tell, tell_fault, tell_made, tell_memory,
-};
+use mill_load::{File, LoadFault, load_job, load_program};
 use mill_stl::write_stl;
 use mill_surface::{SurfaceFault, surface, triangle_count};
 use std::alloc::Global;
@@ -154,9 +151,9 @@ fn store_surface<S: Shelf, O: Sink>(
 fn draw(alloc: Global, cutting: &Cutting) -> Result<Drawn, SurfaceFault>
     requires { IsCutting cutting.now }
     ensures drawn { IfOk result (λ drawn.
-        IsSurface cutting.now.job cutting.now.moves.items drawn.text.items drawn.triangles) }
+        IsSurface cutting.now.job.fields cutting.now.moves.items drawn.text.items drawn.triangles) }
     ensures many { (count : ℕ) → IsErrOf result (TooManyTriangles count)
-        → HasManyTriangles cutting.now.job count }
+        → HasManyTriangles cutting.now.job.fields count }
 {
     let job = &cutting.job;
     let triangles = triangle_count(job);
@@ -165,16 +162,15 @@ fn draw(alloc: Global, cutting: &Cutting) -> Result<Drawn, SurfaceFault>
     }
     let rows = rows_after(alloc, job, &cutting.moves)?;
     let tris = surface(alloc, job, &rows)?;
-    let text = write_stl(alloc, &tris, job.unit)?;
+    let text = write_stl(alloc, &tris, job.fields.unit)?;
     Ok(Drawn { text, triangles })
 }
 
 /// The rows of the stock after all moves.
 fn rows_after(alloc: Global, job: &Job, moves: &[Move]) -> Result<Vec<Row>, WantOfMemory>
-    requires job_ok { IsJob job.now }
-    requires moves_ok { MovesInRange moves.now }
-    ensures stock { IfOk result (λ rows. IsStock job.now moves.now rows.items) }
-    ensures rows_ok { IfOk result (λ rows. All (IsRowOf job.now) rows.items) }
+    requires { MovesInRange moves.now }
+    ensures stock { IfOk result (λ rows. IsStock job.now.fields moves.now rows.items) }
+    ensures rows_ok { IfOk result (λ rows. All (IsRowOf job.now.fields) rows.items) }
 {
     let mut rows = uncut_rows(alloc, job)?;
     for step in moves {

@@ -9,14 +9,20 @@
 // A row is looked at by a function of its own, and functions with a loop do nothing else: the proof of
 // a test costs the more, the more values are alive beside a loop and a `?`.
 ghost use Rattle.std.specs.Prelude.{◌≡◌, IfOk};
-ghost use Rattle.mill_run.specs.Calls.{CanCount};
+ghost use Rattle.mill_answer.specs.Calls.{CanCount};
 
 use mill_io::{MemFile, MemShelf, MemSink, Shelf, Sink, read_whole};
 use mill_run::run;
+use mill_tables::{halves, numbers, owned_words, with_lines};
 use std::alloc::{AllocError, Global};
 use std::process::Abort;
 use std::test::Fail;
 use std::thread::Threads;
+
+/// Looks that what is told of a row is what it wants.
+pub(crate) fn same<R: Abort>(rt: &R, told: &str, wanted: &str, row: &str) {
+    assert_eq!(rt; told, wanted, "{row}");
+}
 
 mod drops;
 mod failures;
@@ -296,11 +302,6 @@ second-absent: two: down", cutter = "flat -> absent", cutter = "flat
 second-narrow: two: "flat", radius = 150 -> "flat", radius = 50
 third: two: ]\n -> { program = "down", cutter = "flat", radius = 150 }]\n"#;
 
-/// A text with line ends in the place of `\n`.
-fn with_lines(alloc: Global, text: &str) -> Result<String, AllocError> {
-    text.replace(alloc, "\\n", "\n")
-}
-
 /// The text of one of FILES.
 fn text_of(name: &str) -> Result<&'static str, Fail> {
     for file in FILES.split("# ") {
@@ -373,14 +374,6 @@ fn files(alloc: Global, program: &[u8]) -> Result<Vec<MemFile>, Fail> {
 /// fail; the sink's room, and the sink's calls that fail. Here no call fails.
 const SOUND: &str = "out 1000, 200";
 
-fn numbers(alloc: Global, words: &str) -> Result<Vec<u64>, Fail> {
-    let mut all = Vec::new(alloc);
-    for word in words.split_whitespace() {
-        all.push(word.parse::<u64>()?)?;
-    }
-    Ok(all)
-}
-
 /// A room, and the numbers of the calls that fail.
 fn limits(alloc: Global, words: &str) -> Result<(usize, Vec<u64>), Fail> {
     let (room, fails) = words.split_once(' ').unwrap_or((words, ""));
@@ -446,14 +439,6 @@ fn call<R: Threads + Sync>(
     Ok(Ended { told, shelf })
 }
 
-fn words(alloc: Global, command: &str) -> Result<Vec<String>, Fail> {
-    let mut all = Vec::new(alloc);
-    for word in command.split_whitespace() {
-        all.push(String::from_str(alloc, word)?)?;
-    }
-    Ok(all)
-}
-
 /// A part of a program's text, as often as it stands there.
 fn part_of(alloc: Global, part: &str) -> Result<String, Fail> {
     let (count, text) = part.split_once(" * ").unwrap_or(("1", part));
@@ -478,14 +463,14 @@ fn answer<R: Threads + Sync>(
     allowed: &str,
 ) -> Result<Ended, Fail> {
     let Some((command, text)) = command.split_once('<') else {
-        return call(rt, alloc, &words(alloc, command)?, b"", allowed);
+        return call(rt, alloc, &owned_words(alloc, command)?, b"", allowed);
     };
     let command = format!(in alloc; "{command} program")?;
     let text = program(alloc, text)?;
     call(
         rt,
         alloc,
-        &words(alloc, &command)?,
+        &owned_words(alloc, &command)?,
         text.as_bytes(),
         allowed,
     )
@@ -503,13 +488,9 @@ fn told_and_left(alloc: Global, ended: &mut Ended, file: &str) -> Result<String,
     Ok(format!(in alloc; "{}|{left}", ended.told)?)
 }
 
-fn same<R: Abort>(rt: &R, told: &str, wanted: &str, row: &str) {
-    assert_eq!(rt; told, wanted, "{row}");
-}
-
 /// Looks at a row: that it says what is told, and that `out` is left as it was.
 fn look<R: Threads + Sync + Abort>(rt: &R, alloc: Global, row: &str) -> Result<(), Fail> {
-    let (command, says) = row.split_once(" => ").ok_or("a row without =>")?;
+    let (command, says) = halves(row)?;
     let mut ended = answer(rt, alloc, command, SOUND)?;
     let told = told_and_left(alloc, &mut ended, "out")?;
     let says = with_lines(alloc, says)?;
@@ -536,7 +517,7 @@ fn stored_as(alloc: Global, ended: &mut Ended, rest: &str) -> Result<String, Fai
 /// Looks at a row with a command whose last word is OUT, which may be written; with what it tells, and with
 /// the file whose text OUT holds then.
 fn look_at_stored<R: Threads + Sync + Abort>(rt: &R, alloc: Global, row: &str) -> Result<(), Fail> {
-    let (command, rest) = row.split_once(" => ").ok_or("a row without =>")?;
+    let (command, rest) = halves(row)?;
     let (_, out) = command.rsplit_once(' ').ok_or("a row without OUT")?;
     let allowed = format!(in alloc; "{out} 1000, 200")?;
     let mut ended = answer(rt, alloc, command, &allowed)?;

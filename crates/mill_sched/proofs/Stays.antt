@@ -8,7 +8,7 @@ use Rattle.mill_sched.specs.declared.piece.Piece.{Piece}
 use Rattle.mill_sched.specs.declared.worker.Worker.{Worker}
 use Rattle.mill_sched.specs.declared.worker.Worker.TheVariants.{Free, Drawn, Holding, Done}
 use Rattle.mill_sched.specs.States.{State, no_task, piece_at, untouched, worker_at}
-use Rattle.mill_sched.specs.Steps.{Step, actor_of, is_failure, is_stopped, looked, step_by, step_of, turned}
+use Rattle.mill_sched.specs.Steps.{Step, actor_of, is_failure, is_stopped, looked, step_by, turned}
 use Rattle.mill_sched.specs.Laws.{IsOnTurn, IsPlaced, number_of}
 use Rattle.mill_sched.proofs.Members.{each_set}
 use Rattle.mill_sched.proofs.Events.{by_test, draws_placed, failure_is, failure_not, has_turn, looks_placed, moves_placed, there}
@@ -28,10 +28,6 @@ placed_by s (Put w) (Holding n) is h =
     let q : Piece = record (piece_at s n) { holder = None } in
     moves_placed s w n Free q h (there s w (Holding n) is (λ e. cc)) (ap number_of is) (λ m e. absurd (cc)) (λ e. absurd (cc), λ e. absurd (cc)) (λ v e. absurd (cc))
 placed_by s e k is h = h
-
--- an event leaves pieces and workers placed
-pub placed_step : (s : State) (e : Event) → IsPlaced s → IsPlaced (step_of s e).state
-placed_step s e h = placed_by s e (worker_at s (actor_of e)) refl h
 
 -- a turn that isn't the failing one isn't past it once it is done
 not_past_more : (o : Option ℕ) (t : ℕ) → is_failure o t ≡ false → IfSome o (λ f. t ≤ f) → IfSome o (λ f. t + 1 ≤ f)
@@ -63,7 +59,3 @@ on_turn_by s (Lower w) (Holding n) is h all = by_test (λ (t : Step). All IsOnTu
 on_turn_by s (Put w) (Holding n) is h all =
     let room = (h.drawn w n (ap number_of is)).1 in turns_set s n _ room all (held_on_turn (piece_at s n) None (all n (untouched no_task) room))
 on_turn_by s e k is h all = all
-
--- an event leaves pieces on their turns
-pub on_turn_step : (s : State) (e : Event) → IsPlaced s → All IsOnTurn s.pieces → All IsOnTurn (step_of s e).state.pieces
-on_turn_step s e h all = on_turn_by s e (worker_at s (actor_of e)) refl h all

@@ -4,13 +4,13 @@ ghost use Rattle.mill_base.specs.Tools.{IsTool};
 ghost use Rattle.mill_base.specs.declared.limits.TheConstants.{MAX_COORDINATE};
 ghost use Rattle.mill_drop.specs.Paths.{IsRow, IsTolerance};
 
-use crate::tables::{coordinate, first_word, halves, part_of, tool};
 use mill_base::{Box2, Cutter, Lattice, Pt3, Tool};
 use mill_crew::Threaded;
 use mill_drop::{
     DropCrew, drop_at, drop_heights_are_unique, drop_once, one_path, path_drop, paths_are_halved,
 };
 use mill_part::SortedPart;
+use mill_tables::{coordinate, first_word, halves, part_of, tool};
 use std::alloc::Global;
 use std::process::Abort;
 use std::test::Fail;
@@ -30,10 +30,9 @@ fn drops(
     requires y_ok { Within MAX_COORDINATE y }
     requires floor_ok { Within MAX_COORDINATE floor }
 {
-    let part = part_of(alloc, tris)?;
-    let shape = SortedPart::new(alloc, &part)?;
-    let height = drop_at(shape.part(), shape.cells(), held, x, y, floor);
-    Ok((height, drop_once(&part, held, x, y, floor)))
+    let shape = part_of(alloc, tris)?;
+    let height = drop_at(&shape, held, x, y, floor);
+    Ok((height, drop_once(shape.part(), held, x, y, floor)))
 }
 
 /// A place by its x and y, and the floor.
@@ -119,7 +118,7 @@ const TRIANGLE: &str = "0 0 200, 1000 0 200, 0 1000 200";
 /// The heights of a flat cutter along a row that the step doesn't divide: at -200, -125, -50 and 0.
 fn row_heights<R: Threads + Sync + AllocGlobal>(
     rt: &R,
-    shape: &SortedPart<'_>,
+    shape: &SortedPart,
 ) -> Result<Vec<i32>, Fail> {
     let tool = Tool::bare(Cutter::Flat { radius: 100 });
     let lattice = Lattice {
@@ -131,15 +130,13 @@ fn row_heights<R: Threads + Sync + AllocGlobal>(
         },
         step: 75,
     };
-    let (part, cells) = (shape.part(), shape.cells());
     let crew = Threaded { rt, workers: 1 };
-    Ok(crew.drop_map(rt.alloc(), part, cells, &tool, &lattice, 0)?)
+    Ok(crew.drop_map(rt.alloc(), shape, &tool, &lattice, 0)?)
 }
 
 #[test]
 fn heights_along_a_row(rt: HostRuntime) -> Result<(), Fail> {
-    let part = part_of(rt.alloc(), TRIANGLE)?;
-    let shape = SortedPart::new(rt.alloc(), &part)?;
+    let shape = part_of(rt.alloc(), TRIANGLE)?;
     let heights = row_heights(&rt, &shape)?;
     assert_eq!(rt; heights.as_slice(), [0, 0, 200, 200].as_slice());
     Ok(())
@@ -160,19 +157,18 @@ fn told(alloc: Global, points: &[Pt3]) -> Result<String, Fail> {
 }
 
 /// The path of a flat cutter along the row at 500.
-fn path(alloc: Global, shape: &SortedPart<'_>, x0: i32, x1: i32, tol: i32) -> Result<String, Fail>
+fn path(alloc: Global, shape: &SortedPart, x0: i32, x1: i32, tol: i32) -> Result<String, Fail>
     requires row_ok { IsRow (pos 500) x0 x1 }
     requires tol_ok { IsTolerance tol }
 {
     let tool = Tool::bare(Cutter::Flat { radius: 100 });
-    let (part, cells) = (shape.part(), shape.cells());
-    let points = path_drop(alloc, part, cells, &tool, 500, x0, x1, 0, tol)?;
+    let points = path_drop(alloc, shape, &tool, 500, x0, x1, 0, tol)?;
     told(alloc, &points)
 }
 
 fn look_at_path<R: Abort + AllocGlobal>(
     rt: &R,
-    shape: &SortedPart<'_>,
+    shape: &SortedPart,
     x0: i32,
     x1: i32,
     tol: i32,
@@ -192,7 +188,7 @@ const TIGHT: &str =
 const LOOSE: &str = "-300 0, -150 0, -113 0, -104 0, -99 200, -94 200, -75 200, 0 200, 300 200, ";
 
 // The cutter's edge comes over the part's after -100.
-fn look_at_paths<R: Abort + AllocGlobal>(rt: &R, shape: &SortedPart<'_>) -> Result<(), Fail> {
+fn look_at_paths<R: Abort + AllocGlobal>(rt: &R, shape: &SortedPart) -> Result<(), Fail> {
     look_at_path(rt, shape, -300, 300, 0, TIGHT)?;
     look_at_path(rt, shape, -300, 300, 200, LOOSE)?;
     look_at_path(rt, shape, -99, -99, 0, "-99 200, ")
@@ -200,8 +196,7 @@ fn look_at_paths<R: Abort + AllocGlobal>(rt: &R, shape: &SortedPart<'_>) -> Resu
 
 #[test]
 fn paths_along_a_row(rt: HostRuntime) -> Result<(), Fail> {
-    let part = part_of(rt.alloc(), TRIANGLE)?;
-    let shape = SortedPart::new(rt.alloc(), &part)?;
+    let shape = part_of(rt.alloc(), TRIANGLE)?;
     look_at_paths(&rt, &shape)?;
     paths_are_halved();
     one_path();

@@ -1,7 +1,7 @@
-use crate::tables::{feed, halves, part_of};
 use mill_base::Cutter;
 use mill_gouge::{clears, first_gouge};
 use mill_part::SortedPart;
+use mill_tables::{feed, halves, part_of};
 use std::process::Abort;
 use std::test::Fail;
 
@@ -28,18 +28,18 @@ fn number(word: &str) -> Result<Option<u32>, Fail> {
 }
 
 /// Looks at a move: the post that a flat cutter gouges along it, and whether it is clear.
-fn look<R: Abort>(rt: &R, shape: &SortedPart<'_>, row: &str) -> Result<(), Fail> {
+fn look<R: Abort>(rt: &R, shape: &SortedPart, row: &str) -> Result<(), Fail> {
     let (along, wanted) = halves(row)?;
     let (along, post) = (feed(along)?, number(wanted)?);
     let flat = Cutter::Flat { radius: 100 };
-    let gouge = first_gouge(flat, shape.part(), shape.cells(), &along);
-    let is_clear = clears(flat, shape.part(), shape.cells(), &along);
+    let gouge = first_gouge(flat, shape, &along);
+    let is_clear = clears(flat, shape, &along);
     let found = (gouge.map(|gouge| gouge.tri), is_clear);
     assert_eq!(rt; found, (post, post.is_none()), "{row}");
     Ok(())
 }
 
-fn look_at_each<R: Abort>(rt: &R, shape: &SortedPart<'_>, table: &str) -> Result<(), Fail> {
+fn look_at_each<R: Abort>(rt: &R, shape: &SortedPart, table: &str) -> Result<(), Fail> {
     for row in table.lines() {
         look(rt, shape, row)?;
     }
@@ -48,7 +48,6 @@ fn look_at_each<R: Abort>(rt: &R, shape: &SortedPart<'_>, table: &str) -> Result
 
 #[test]
 fn posts_are_passed_over_and_beside(rt: HostRuntime) -> Result<(), Fail> {
-    let part = part_of(rt.alloc(), POSTS)?;
-    let shape = SortedPart::new(rt.alloc(), &part)?;
+    let shape = part_of(rt.alloc(), POSTS)?;
     look_at_each(&rt, &shape, MOVES)
 }

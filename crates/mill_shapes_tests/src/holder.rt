@@ -1,9 +1,10 @@
 ghost use Rattle.mill_base.specs.Ranges.{IsInRange, MoveInRange, TriInRange};
 ghost use Rattle.mill_base.specs.Tools.{IsHolder};
 
-use crate::tables::{feed, halves, holder, leaf, point, triangle};
+use crate::tables::leaf;
 use mill_base::{Holder, Move, Tri};
 use mill_sweep::{Leaf, Sweep, holder_block, holder_passes_point, holder_passes_tri};
+use mill_tables::{feed, halves, holder, point, triangle};
 use std::process::Abort;
 use std::test::Fail;
 

@@ -1,10 +1,10 @@
 ghost use Rattle.mill_base.specs.Ranges.{MoveInRange};
 ghost use Rattle.mill_base.specs.Tools.{IsTool};
 
-use crate::tables::{feed, halves, part_of, tool};
 use mill_base::{Move, Tool};
-use mill_lift::{has_room, least_lift};
+use mill_gouge::{has_room, least_lift};
 use mill_part::SortedPart;
+use mill_tables::{feed, halves, part_of, tool};
 use std::process::Abort;
 use std::test::Fail;
 
@@ -25,14 +25,14 @@ flat 100 in 200 50 on 150 0 1000 to 150 0 0 => 250
 flat 100 on 0 0 523988 to 0 0 0 => no room";
 
 /// The least lift, or `no room`.
-fn least(held: &Tool, shape: &SortedPart<'_>, along: &Move) -> Option<u32>
+fn least(held: &Tool, shape: &SortedPart, along: &Move) -> Option<u32>
     requires tool_ok { IsTool held.now }
     requires move_ok { MoveInRange along.now }
 {
     if !has_room(shape.part(), along) {
         return None;
     }
-    Some(least_lift(held, shape.part(), shape.cells(), along))
+    Some(least_lift(held, shape, along))
 }
 
 /// A lift's units, or `no room`.
@@ -43,7 +43,7 @@ fn units(text: &str) -> Result<Option<u32>, Fail> {
     Ok(Some(text.parse()?))
 }
 
-fn look<R: Abort>(rt: &R, shape: &SortedPart<'_>, row: &str) -> Result<(), Fail> {
+fn look<R: Abort>(rt: &R, shape: &SortedPart, row: &str) -> Result<(), Fail> {
     let (text, wanted) = halves(row)?;
     let (held, along) = text.split_once(" on ").ok_or("a row without a move")?;
     let found = least(&tool(held)?, shape, &feed(along)?);
@@ -51,7 +51,7 @@ fn look<R: Abort>(rt: &R, shape: &SortedPart<'_>, row: &str) -> Result<(), Fail>
     Ok(())
 }
 
-fn look_at_each<R: Abort>(rt: &R, shape: &SortedPart<'_>) -> Result<(), Fail> {
+fn look_at_each<R: Abort>(rt: &R, shape: &SortedPart) -> Result<(), Fail> {
     for row in MOVES.lines() {
         look(rt, shape, row)?;
     }
@@ -60,7 +60,6 @@ fn look_at_each<R: Abort>(rt: &R, shape: &SortedPart<'_>) -> Result<(), Fail> {
 
 #[test]
 fn moves_are_lifted_over_a_post(rt: HostRuntime) -> Result<(), Fail> {
-    let part = part_of(rt.alloc(), POST)?;
-    let shape = SortedPart::new(rt.alloc(), &part)?;
+    let shape = part_of(rt.alloc(), POST)?;
     look_at_each(&rt, &shape)
 }

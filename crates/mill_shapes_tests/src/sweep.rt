@@ -1,9 +1,10 @@
 ghost use Rattle.mill_base.specs.Ranges.{IsInRange, MoveInRange, TriInRange};
 ghost use Rattle.mill_base.specs.Sizes.{IsCutter};
 
-use crate::tables::{cutter, feed, halves, leaf, point, triangle};
+use crate::tables::leaf;
 use mill_base::{Box2, Cutter, Move, Pt3, Tri};
 use mill_sweep::{Leaf, first_block, first_block_point, passes_point, passes_tri, reach_box};
+use mill_tables::{cutter, feed, halves, point, triangle};
 use std::process::Abort;
 use std::test::Fail;
 

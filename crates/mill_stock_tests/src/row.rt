@@ -1,14 +1,14 @@
 //! Cuts, tests and programs of one row, the last of its job's.
 ghost use Rattle.std.specs.Prelude.{◌≡◌, IfOk, None};
 ghost use Rattle.mill_base.specs.Ranges.{MovesInRange};
-ghost use Rattle.mill_job.specs.Jobs.{IsJob};
 ghost use Rattle.mill_dexel.specs.Rows.{IsRowOf};
 
-use crate::tables::{add, first_word, halves, job, kind, moves_of, same, step, told_stop};
+use crate::tables::{job, same, told_stop};
 use mill_base::{Kind, Move};
 use mill_dexel::Row;
 use mill_job::Job;
 use mill_sweep::Leaf;
+use mill_tables::{add, first_word, halves, kind, moves_of, step};
 use std::alloc::Global;
 use std::process::Abort;
 use std::test::Fail;
@@ -34,8 +34,7 @@ fn told_tops(alloc: Global, tops: &[i32]) -> Result<String, Fail> {
 
 /// Where the test of a rapid, of a feed or of a holder fails over a row.
 fn stop(job: &Job, row: &Row, word: &str, ends: &str) -> Result<Option<(u32, Leaf)>, Fail>
-    requires job { IsJob job.now }
-    requires row { IsRowOf job.now row.now }
+    requires row { IsRowOf job.now.fields row.now }
 {
     let along = step(kind(word), ends)?;
     match word {
@@ -48,9 +47,8 @@ fn stop(job: &Job, row: &Row, word: &str, ends: &str) -> Result<Option<(u32, Lea
 
 /// Lets a row go on from move 0 by `turn`, to the end or to the first move that fails.
 fn turned(row: &mut Row, job: &Job, moves: &[Move])
-    requires job { IsJob job.now }
     requires moves_ok { MovesInRange moves.now }
-    requires row { IsRowOf job.now row.old }
+    requires row { IsRowOf job.now.fields row.old }
     requires unfailed { row.old.failed ≡ None }
     requires fresh { row.old.done ≡ 0 }
 {
@@ -63,12 +61,11 @@ fn turned(row: &mut Row, job: &Job, moves: &[Move])
 
 /// The same by `turn_on`.
 fn turned_on(row: &mut Row, job: &Job, moves: &[Move])
-    requires job { IsJob job.now }
     requires moves_ok { MovesInRange moves.now }
-    requires row { IsRowOf job.now row.old }
+    requires row { IsRowOf job.now.fields row.old }
     requires unfailed { row.old.failed ≡ None }
     requires fresh { row.old.done ≡ 0 }
-    ensures { IsRowOf job.now row.new }
+    ensures { IsRowOf job.now.fields row.new }
 {
     for t in 0..moves.len() as u64 {
         if !row.turn_on(job, moves, t) {
@@ -79,9 +76,8 @@ fn turned_on(row: &mut Row, job: &Job, moves: &[Move])
 
 /// Runs a program over a row that is before its first move, by `turn_on`; by `turn` it comes to the same.
 fn run(alloc: Global, job: &Job, row: &mut Row, program: &str) -> Result<String, Fail>
-    requires job { IsJob job.now }
-    requires row { IsRowOf job.now row.old }
-    ensures { IsRowOf job.now row.new }
+    requires row { IsRowOf job.now.fields row.old }
+    ensures { IsRowOf job.now.fields row.new }
 {
     let None = row.failed() else {
         return Err(Fail::from("a row that has failed"));
@@ -103,9 +99,8 @@ fn run(alloc: Global, job: &Job, row: &mut Row, program: &str) -> Result<String,
 /// Does one act on a row: a cut, which tells the tops then; a program; taking it again, before the first move; or a
 /// test, which tells the column that fails.
 fn act(alloc: Global, job: &Job, row: &mut Row, text: &str) -> Result<String, Fail>
-    requires job { IsJob job.now }
-    requires row { IsRowOf job.now row.old }
-    ensures { IsRowOf job.now row.new }
+    requires row { IsRowOf job.now.fields row.old }
+    ensures { IsRowOf job.now.fields row.new }
 {
     let (word, rest) = text.split_once(' ').unwrap_or((text, ""));
     match word {
@@ -124,8 +119,7 @@ fn act(alloc: Global, job: &Job, row: &mut Row, text: &str) -> Result<String, Fa
 
 /// Does several acts on a row.
 fn told_acts(alloc: Global, job: &Job, row: &mut Row, acts: &str) -> Result<String, Fail>
-    requires job { IsJob job.now }
-    requires row { IsRowOf job.now row.old }
+    requires row { IsRowOf job.now.fields row.old }
 {
     let mut told = String::new(alloc);
     for text in acts.split("; ") {
@@ -135,9 +129,7 @@ fn told_acts(alloc: Global, job: &Job, row: &mut Row, acts: &str) -> Result<Stri
 }
 
 /// Does the acts on the last row of an uncut stock.
-pub(crate) fn told_of_last(alloc: Global, job: &Job, acts: &str) -> Result<String, Fail>
-    requires { IsJob job.now }
-{
+pub(crate) fn told_of_last(alloc: Global, job: &Job, acts: &str) -> Result<String, Fail> {
     let mut row = Row::new(alloc, job, u64::from(job.rows() - 1))?;
     told_acts(alloc, job, &mut row, acts)
 }

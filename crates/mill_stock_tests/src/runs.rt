@@ -1,13 +1,13 @@
 //! Programs over all rows of a stock, by threads, and which moves a row goes over.
 ghost use Rattle.std.specs.Prelude.{◌≤◌};
 ghost use Rattle.mill_base.specs.Ranges.{MovesInRange};
-ghost use Rattle.mill_job.specs.Jobs.{IsJob};
 
 use crate::row::{told_of_last, told_row};
-use crate::tables::{add, first_word, halves, job, moves_of, same};
+use crate::tables::{job, same};
 use mill_base::Move;
 use mill_dexel::{Bands, Row, rows_static, uncut_rows};
 use mill_job::Job;
+use mill_tables::{add, first_word, halves, moves_of};
 use std::alloc::Global;
 use std::process::Abort;
 use std::test::Fail;
@@ -29,7 +29,6 @@ fn told_by_workers<R: Threads + Sync>(
     moves: &[Move],
     workers: u32,
 ) -> Result<String, Fail>
-    requires job { IsJob job.now }
     requires moves_ok { MovesInRange moves.now }
     requires some { 1 ≤ workers }
     requires few { workers ≤ 64 }
@@ -47,7 +46,6 @@ fn look_by_workers<R: Threads + Sync + Abort + AllocGlobal>(
     workers: u32,
     wanted: &str,
 ) -> Result<(), Fail>
-    requires job { IsJob job.now }
     requires moves_ok { MovesInRange moves.now }
     requires some { 1 ≤ workers }
     requires few { workers ≤ 64 }
@@ -58,9 +56,7 @@ fn look_by_workers<R: Threads + Sync + Abort + AllocGlobal>(
 }
 
 /// What the last row comes to by itself.
-fn last_by_itself(alloc: Global, job: &Job, program: &str) -> Result<String, Fail>
-    requires { IsJob job.now }
-{
+fn last_by_itself(alloc: Global, job: &Job, program: &str) -> Result<String, Fail> {
     let acts = format!(in alloc; "run {program}")?;
     told_of_last(alloc, job, &acts)
 }

@@ -1,13 +1,13 @@
 //! Cuts of all rows of a stock, the limit on the depth of cut, and surfaces.
 ghost use Rattle.std.specs.Prelude.{All};
-ghost use Rattle.mill_job.specs.Jobs.{IsJob};
 ghost use Rattle.mill_dexel.specs.Rows.{IsRowOf};
 
-use crate::tables::{add, first_word, halves, job, same, step};
+use crate::tables::{job, same};
 use mill_base::{Kind, Tri};
 use mill_dexel::{Row, cut_rows, keeps_depth, uncut_rows};
 use mill_job::Job;
 use mill_surface::surface;
+use mill_tables::{add, first_word, halves, step};
 use std::alloc::Global;
 use std::process::Abort;
 use std::test::Fail;
@@ -43,8 +43,7 @@ fn told(alloc: Global, tris: &[Tri]) -> Result<String, Fail> {
 
 /// The surface of a stock of which all rows are there.
 fn told_surface(alloc: Global, job: &Job, rows: &[Row]) -> Result<String, Fail>
-    requires job { IsJob job.now }
-    requires rows_ok { All (IsRowOf job.now) rows.now }
+    requires rows_ok { All (IsRowOf job.now.fields) rows.now }
 {
     if rows.len() != job.rows() as usize {
         return Err(Fail::from("a stock that isn't whole"));
@@ -69,9 +68,8 @@ fn told_rows(alloc: Global, rows: &[Row]) -> Result<String, Fail> {
 
 /// Does a cut in all rows, or looks whether a feed keeps the limit on the depth of cut.
 fn moved(job: &Job, rows: &mut [Row], word: &str, ends: &str) -> Result<&'static str, Fail>
-    requires job { IsJob job.now }
-    requires rows_ok { All (IsRowOf job.now) rows.old }
-    ensures { All (IsRowOf job.now) rows.new }
+    requires rows_ok { All (IsRowOf job.now.fields) rows.old }
+    ensures { All (IsRowOf job.now.fields) rows.new }
 {
     let along = step(Kind::Feed, ends)?;
     if word == "cut" {
@@ -87,9 +85,8 @@ fn moved(job: &Job, rows: &mut [Row], word: &str, ends: &str) -> Result<&'static
 
 /// Does one act on all rows: tells their tops or their surface, or a cut or a look.
 fn act(alloc: Global, job: &Job, rows: &mut [Row], text: &str) -> Result<String, Fail>
-    requires job { IsJob job.now }
-    requires rows_ok { All (IsRowOf job.now) rows.old }
-    ensures { All (IsRowOf job.now) rows.new }
+    requires rows_ok { All (IsRowOf job.now.fields) rows.old }
+    ensures { All (IsRowOf job.now.fields) rows.new }
 {
     match text {
         "tops" => return told_rows(alloc, rows),
@@ -102,8 +99,7 @@ fn act(alloc: Global, job: &Job, rows: &mut [Row], text: &str) -> Result<String,
 
 /// Does several acts on all rows.
 fn told_acts(alloc: Global, job: &Job, rows: &mut [Row], acts: &str) -> Result<String, Fail>
-    requires job { IsJob job.now }
-    requires rows_ok { All (IsRowOf job.now) rows.old }
+    requires rows_ok { All (IsRowOf job.now.fields) rows.old }
 {
     let mut told = String::new(alloc);
     for text in acts.split("; ") {

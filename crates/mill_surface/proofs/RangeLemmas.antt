@@ -5,13 +5,10 @@ use Rattle.std.proofs.lemmas.List.Elements.{Contains-push_cases}
 use Rattle.mill_base.specs.Ranges.{TriInUnitRange, TrisInUnitRange}
 use Rattle.mill_base.specs.declared.points.Tri.{Tri}
 use Rattle.mill_base.specs.declared.unit.Unit.{Unit}
-use Rattle.mill_job.specs.declared.job.Job.{Job}
+use Rattle.mill_job.specs.declared.fields.JobFields.{JobFields}
 use Rattle.mill_job.specs.Columns.{column_count}
 use Rattle.mill_job.specs.Jobs.{IsFrom}
 use Rattle.mill_dexel.specs.Rows.{RowState, IsRowOf}
-
-pub no_tris : (unit : Unit) → TrisInUnitRange unit []
-no_tris unit tri member = absurd (omega (arith, member.1))
 
 one_more_tri : (unit : Unit) (tris : List Tri) (tri : Tri) → TrisInUnitRange unit tris → TriInUnitRange unit tri → TrisInUnitRange unit (tris ++ tri ∷ [])
 one_more_tri unit tris tri all one = λ other member. by other (Contains-push_cases tris tri other member)
@@ -27,8 +24,15 @@ two_more_tris unit tris next last s t first second all s_ok t_ok =
     let one : TrisInUnitRange unit next = subst (TrisInUnitRange unit) (sym first) (one_more_tri unit tris s all s_ok) in
     subst (TrisInUnitRange unit) (sym second) (one_more_tri unit next t one t_ok)
 
+-- a row that is read has a top in each column
+pub top_there : (job : JobFields) (rows : List RowState) (j i : ℕ) (r : RowState) (tops : List ℤ) → All (IsRowOf job) rows → j < length rows → r ≡ get_or rows j r → tops ≡ r.tops
+    → i < column_count job → i < length tops
+top_there job rows j i r tops all there read same inside =
+    let is : IsRowOf job r = subst (IsRowOf job) (sym read) (all j r there) in
+    subst (λ (ts : List ℤ). i < length ts) (sym same) (omega (arith, is.columns, inside))
+
 -- a top that is read from a row stays from the floor to the uncut stock's top
-pub top_in_stock : (job : Job) (rows : List RowState) (j i : ℕ) (r : RowState) (tops : List ℤ) → All (IsRowOf job) rows → j < length rows → r ≡ get_or rows j r → tops ≡ r.tops
+pub top_in_stock : (job : JobFields) (rows : List RowState) (j i : ℕ) (r : RowState) (tops : List ℤ) → All (IsRowOf job) rows → j < length rows → r ≡ get_or rows j r → tops ≡ r.tops
     → i < column_count job → IsFrom job.floor job.top (get_or tops i (pos 0))
 top_in_stock job rows j i r tops all there read same inside =
     let is : IsRowOf job r = subst (IsRowOf job) (sym read) (all j r there) in

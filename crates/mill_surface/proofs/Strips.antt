@@ -5,7 +5,7 @@ use Rattle.std.specs.List.{flat_map, range_with_len}
 use Rattle.mill_base.specs.declared.motion.Move.{Move}
 use Rattle.mill_base.specs.declared.points.Pt3.{Pt3}
 use Rattle.mill_base.specs.declared.points.Tri.{Tri}
-use Rattle.mill_job.specs.declared.job.Job.{Job}
+use Rattle.mill_job.specs.declared.fields.JobFields.{JobFields}
 use Rattle.mill_job.specs.Columns.{row_count, column_count}
 use Rattle.mill_dexel.specs.Rows.{RowState, uncut_row}
 use Rattle.mill_dexel.specs.Stocks.{IsRow, IsStock}
@@ -60,12 +60,12 @@ module _ (p q : ℕ → ℕ → Pt3) (rows columns : ℕ) (same : (j i : ℕ) �
 -- ---- the points after a list of moves
 
 -- the rows of a stock have the tops after its moves
-point_after : (job : Job) (moves : List Move) (rows : List RowState) → IsStock job moves rows → (j i : ℕ) → j < row_count job → i < column_count job
+point_after : (job : JobFields) (moves : List Move) (rows : List RowState) → IsStock job moves rows → (j i : ℕ) → j < row_count job → i < column_count job
     → point_in job rows j i ≡ top_point job moves j i
 point_after job moves rows stock j i row column =
     let is : IsRow job moves j (get_or rows j (uncut_row job j)) = stock.rows_ok j (uncut_row job j) row in
     rw (is.after, row_after-at job j moves i (pos 0) column) refl
 
-pub surface_after : (job : Job) (moves : List Move) (rows : List RowState) → IsStock job moves rows → surface_of job (point_in job rows) ≡ surface_of job (top_point job moves)
+pub surface_after : (job : JobFields) (moves : List Move) (rows : List RowState) → IsStock job moves rows → surface_of job (point_in job rows) ≡ surface_of job (top_point job moves)
 surface_after job moves rows stock =
     surface_same (point_in job rows) (top_point job moves) (row_count job) (column_count job) (point_after job moves rows stock)

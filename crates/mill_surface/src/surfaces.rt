@@ -27,16 +27,15 @@ use std::alloc::Global;
 ///
 /// `TooManyTriangles` exactly where there are more than 200,000. The only other one is want of memory.
 pub fn surface(alloc: Global, job: &Job, rows: &[Row]) -> Result<Vec<Tri>, SurfaceFault>
-    requires job { IsJob job.now }
-    requires every { length rows.now ≡ row_count job.now }
-    requires rows_ok { All (IsRowOf job.now) rows.now }
-    ensures tris { IfOk result (λ tris. tris.items ≡ surface_of job.now (point_in job.now rows.now)) }
-    ensures after { IfOk result (λ tris. (moves : List Move) → IsStock job.now moves rows.now
-        → tris.items ≡ surface_of job.now (top_point job.now moves)) }
-    ensures in_range { IfOk result (λ tris. TrisInUnitRange job.now.unit tris.items) }
-    ensures count { IfOk result (λ tris. length tris.items ≡ triangle_count_of job.now) }
+    requires every { length rows.now ≡ row_count job.now.fields }
+    requires rows_ok { All (IsRowOf job.now.fields) rows.now }
+    ensures tris { IfOk result (λ tris. tris.items ≡ surface_of job.now.fields (point_in job.now.fields rows.now)) }
+    ensures after { IfOk result (λ tris. (moves : List Move) → IsStock job.now.fields moves rows.now
+        → tris.items ≡ surface_of job.now.fields (top_point job.now.fields moves)) }
+    ensures in_range { IfOk result (λ tris. TrisInUnitRange job.now.fields.unit tris.items) }
+    ensures count { IfOk result (λ tris. length tris.items ≡ triangle_count_of job.now.fields) }
     ensures few { IfOk result (λ tris. length tris.items ≤ MAX_TRIANGLES) }
-    ensures many { (count : ℕ) → IsErrOf result (TooManyTriangles count) ↔ HasManyTriangles job.now count }
+    ensures many { (count : ℕ) → IsErrOf result (TooManyTriangles count) ↔ HasManyTriangles job.now.fields count }
 {
     let count = triangle_count(job);
     if count > MAX_TRIANGLES as u64 {
@@ -47,16 +46,14 @@ pub fn surface(alloc: Global, job: &Job, rows: &[Row]) -> Result<Vec<Tri>, Surfa
 
 /// How many triangles the surface of a job's stock has: two for each square of four neighbouring columns.
 pub fn triangle_count(job: &Job) -> u64
-    requires { IsJob job.now }
-    ensures { result ≡ triangle_count_of job.now }
+    ensures { result ≡ triangle_count_of job.now.fields }
 {
     2 * square_count(job)
 }
 
 // How many squares of four neighbouring columns there are.
 fn square_count(job: &Job) -> u64
-    requires { IsJob job.now }
-    ensures value { result ≡ (row_count job.now - 1) * (column_count job.now - 1) }
+    ensures value { result ≡ (row_count job.now.fields - 1) * (column_count job.now.fields - 1) }
     ensures bound { result ≤ MAX_COLUMNS }
 {
     u64::from(job.rows() - 1) * u64::from(job.columns() - 1)
@@ -64,11 +61,10 @@ fn square_count(job: &Job) -> u64
 
 // The triangles of all strips, of which there are `count`.
 fn all_tris(alloc: Global, job: &Job, rows: &[Row], count: u64) -> Result<Vec<Tri>, WantOfMemory>
-    requires job { IsJob job.now }
-    requires every { length rows.now ≡ row_count job.now }
-    requires rows_ok { All (IsRowOf job.now) rows.now }
-    ensures tris { IfOk result (λ tris. tris.items ≡ surface_of job.now (point_in job.now rows.now)) }
-    ensures in_range { IfOk result (λ tris. TrisInUnitRange job.now.unit tris.items) }
+    requires every { length rows.now ≡ row_count job.now.fields }
+    requires rows_ok { All (IsRowOf job.now.fields) rows.now }
+    ensures tris { IfOk result (λ tris. tris.items ≡ surface_of job.now.fields (point_in job.now.fields rows.now)) }
+    ensures in_range { IfOk result (λ tris. TrisInUnitRange job.now.fields.unit tris.items) }
 {
     let mut tris = Vec::with_capacity(alloc, count as usize)?;
     for row in 0..job.rows() - 1 {
@@ -79,13 +75,12 @@ fn all_tris(alloc: Global, job: &Job, rows: &[Row], count: u64) -> Result<Vec<Tr
 
 // Adds the triangles between a row and the next.
 fn add_strip(tris: &mut Vec<Tri>, job: &Job, rows: &[Row], row: u32) -> Result<(), WantOfMemory>
-    requires job { IsJob job.now }
-    requires every { length rows.now ≡ row_count job.now }
-    requires rows_ok { All (IsRowOf job.now) rows.now }
-    requires row { row + 1 < row_count job.now }
-    requires in_range { TrisInUnitRange job.now.unit tris.old.items }
-    ensures tris { OnOk result (tris.new.items ≡ tris.old.items ++ strip_tris (column_count job.now) (point_in job.now rows.now) row) }
-    ensures in_range { OnOk result (TrisInUnitRange job.now.unit tris.new.items) }
+    requires every { length rows.now ≡ row_count job.now.fields }
+    requires rows_ok { All (IsRowOf job.now.fields) rows.now }
+    requires row { row + 1 < row_count job.now.fields }
+    requires in_range { TrisInUnitRange job.now.fields.unit tris.old.items }
+    ensures tris { OnOk result (tris.new.items ≡ tris.old.items ++ strip_tris (column_count job.now.fields) (point_in job.now.fields rows.now) row) }
+    ensures in_range { OnOk result (TrisInUnitRange job.now.fields.unit tris.new.items) }
 {
     for column in 0..job.columns() - 1 {
         add_square(tris, job, rows, row, column)?;
@@ -101,14 +96,13 @@ fn add_square(
     row: u32,
     column: u32,
 ) -> Result<(), WantOfMemory>
-    requires job { IsJob job.now }
-    requires every { length rows.now ≡ row_count job.now }
-    requires rows_ok { All (IsRowOf job.now) rows.now }
-    requires row { row + 1 < row_count job.now }
-    requires column { column + 1 < column_count job.now }
-    requires in_range { TrisInUnitRange job.now.unit tris.old.items }
-    ensures tris { OnOk result (tris.new.items ≡ tris.old.items ++ square_tris (point_in job.now rows.now) row column) }
-    ensures in_range { OnOk result (TrisInUnitRange job.now.unit tris.new.items) }
+    requires every { length rows.now ≡ row_count job.now.fields }
+    requires rows_ok { All (IsRowOf job.now.fields) rows.now }
+    requires row { row + 1 < row_count job.now.fields }
+    requires column { column + 1 < column_count job.now.fields }
+    requires in_range { TrisInUnitRange job.now.fields.unit tris.old.items }
+    ensures tris { OnOk result (tris.new.items ≡ tris.old.items ++ square_tris (point_in job.now.fields rows.now) row column) }
+    ensures in_range { OnOk result (TrisInUnitRange job.now.fields.unit tris.new.items) }
 {
     let here = top_point_of(job, rows, row, column);
     let along = top_point_of(job, rows, row, column + 1);
@@ -129,13 +123,12 @@ fn add_square(
 
 // The point at the top of a column.
 fn top_point_of(job: &Job, rows: &[Row], row: u32, column: u32) -> Pt3
-    requires job { IsJob job.now }
-    requires every { length rows.now ≡ row_count job.now }
-    requires rows_ok { All (IsRowOf job.now) rows.now }
-    requires row { row < row_count job.now }
-    requires column { column < column_count job.now }
-    ensures value { result ≡ point_in job.now rows.now row column }
-    ensures in_range { IsInUnitRange job.now.unit result }
+    requires every { length rows.now ≡ row_count job.now.fields }
+    requires rows_ok { All (IsRowOf job.now.fields) rows.now }
+    requires row { row < row_count job.now.fields }
+    requires column { column < column_count job.now.fields }
+    ensures value { result ≡ point_in job.now.fields rows.now row column }
+    ensures in_range { IsInUnitRange job.now.fields.unit result }
 {
     Pt3 {
         x: job.column_x(column),

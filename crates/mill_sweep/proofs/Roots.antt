@@ -13,10 +13,6 @@ sorted_sum a b = elim (cases_lt a b) [
   | inr more ↦ let most : max a b ≡ a = omega arith in let least : min a b ≡ b = omega arith in rw (most, least) (omega arith)
 ]
 
--- the square of the longer is less than the sum, where the shorter is something
-pub longer_under : (a b : ℕ) → 0 < b → a * a < a * a + b * b
-longer_under a b some = let square : 1 * 1 ≤ b * b = mul-le-mul some some in omega arith
-
 -- the square of the longer and half of the shorter isn't
 pub longer_over : (a b : ℕ) → b ≤ a → a * a + b * b ≤ (a + div_ceil b 2) * (a + div_ceil b 2)
 longer_over a b order = by (div_ceil b 2) (div_ceil_times b 2 (omega arith)).0

@@ -3,10 +3,12 @@
 // Each table is one text: the proof of a test then costs the same however many rows there are. A
 // row is a line with words, where `''` is an empty one, and behind `=>` what their answer says.
 use mill_command::{Refusal, read_words};
+use mill_tables::with_lines;
 use std::alloc::Global;
 use std::process::Abort;
 use std::test::Fail;
 
+// Adds a word of a row, where `''` is an empty one.
 fn add(alloc: Global, all: &mut Vec<String>, word: &str) -> Result<(), Fail> {
     let word = if word == "''" { "" } else { word };
     all.push(String::from_str(alloc, word)?)?;
@@ -38,7 +40,7 @@ fn answer_to(alloc: Global, words: &str) -> Result<(&'static str, String), Fail>
 
 // Whether a text has this part, in which `\n` is a line's end.
 fn says(alloc: Global, text: &str, part: &str) -> Result<bool, Fail> {
-    let part = part.replace(alloc, "\\n", "\n")?;
+    let part = with_lines(alloc, part)?;
     Ok(text.contains(part.as_str()))
 }
 

@@ -4,11 +4,12 @@
 // row is a line with acts, and behind `=>` what comes of each. An act is a file's name and one of
 // `creates`, `appends TEXT`, `stores TEXT`, `reads LIMIT` of the whole file, `pieces LIMIT` and
 // `from PLACE`. Texts that may be empty have quotes.
-use crate::tables::{halves, same};
+use crate::tables::same;
 use mill_io::{
     Failed, FileShelf, MemFile, MemShelf, MemSink, PieceEnd, Pieces, Shelf, StdSink, read_whole,
     store, write_whole,
 };
+use mill_tables::halves;
 use std::alloc::{AllocError, Global};
 use std::process::Abort;
 use std::test::Fail;

@@ -3,10 +3,11 @@
 // Each table is one text: the proof of a test then costs the same however many rows there are. A row
 // is a line `OLD => NEW => SAYS`: EXAMPLE with NEW in the place of OLD, and what is said of it. There
 // `\n` is a line's end.
-use crate::tables::{halves, same, text_of_row};
+use crate::tables::{same, text_of_row};
 use mill_base::{Box2, Cutter, Holder, Pt3, Tool, Unit};
 use mill_decimal::Snap;
-use mill_job::{Job, JobFault, Key, Levels, Name, Place, read_job};
+use mill_job::{JobFault, JobFields, Key, Levels, Name, Place, read_job};
+use mill_tables::halves;
 use std::alloc::Global;
 use std::process::Abort;
 use std::test::Fail;
@@ -52,7 +53,7 @@ const LADDER: &str =
     40, 39, 38, 37, 36, 35, 34, 33, 32, 31, 30, 29, 28, 27, 26, 25, 24, 23, 22, 21, 20, 19, 18, \
     17, 16, 15, 14, 13, 12, 11, 10, 9, 8, 7, 6, 5, 4, 3, 2, 1, 0";
 
-const JOB: Job = Job {
+const JOB: JobFields = JobFields {
     unit: Unit::Hundredth,
     cutter: Cutter::Flat { radius: 150 },
     floor: 0,
@@ -84,7 +85,10 @@ const JOB: Job = Job {
 /// What is said of a text: the job as it is, and its levels, or its fault.
 fn answer(alloc: Global, text: &str) -> Result<String, Fail> {
     match read_job(alloc, text.as_bytes()) {
-        Ok(job) => Ok(format!(in alloc; "{job:?} with levels {:?}", job.levels.as_slice())?),
+        Ok(job) => {
+            let fields = job.fields;
+            Ok(format!(in alloc; "{fields:?} with levels {:?}", fields.levels.as_slice())?)
+        }
         Err(fault) => Ok(format!(in alloc; "{fault}")?),
     }
 }
@@ -120,7 +124,7 @@ fn each_is_read<R: Abort>(rt: &R, alloc: Global, from: &str, table: &str) -> Res
 #[test]
 fn reads_a_job(rt: HostRuntime) -> Result<(), Fail> {
     let job = read_job(rt.alloc(), EXAMPLE.as_bytes())?;
-    assert_eq!(rt; job, JOB);
+    assert_eq!(rt; job.fields, JOB);
     Ok(())
 }
 
@@ -281,7 +285,7 @@ fn refuses_bytes_that_are_no_text(rt: HostRuntime) {
 /// The first and the last of a text's levels, and how many they are.
 fn levels_of(alloc: Global, text: &str) -> Result<(Option<i32>, Option<i32>, usize), Fail> {
     let job = read_job(alloc, text.as_bytes())?;
-    let heights = job.levels.as_slice();
+    let heights = job.fields.levels.as_slice();
     Ok((
         heights.first().copied(),
         heights.last().copied(),
@@ -353,11 +357,11 @@ fn mended_at_all<R: Abort>(rt: &R, alloc: Global) -> Result<String, Fail> {
 }
 
 /// The job of the text that is left.
-fn mended_job() -> Job {
+fn mended_job() -> JobFields {
     let mut levels = Levels::NONE;
     levels.push(299);
     levels.push(1);
-    Job {
+    JobFields {
         cutter: Cutter::Cone {
             radius: 150,
             rise: 16,
@@ -385,7 +389,7 @@ fn mended_job() -> Job {
 fn first_fault_decides(rt: HostRuntime) -> Result<(), Fail> {
     let text = mended_at_all(&rt, rt.alloc())?;
     let job = read_job(rt.alloc(), text.as_bytes())?;
-    assert_eq!(rt; job, mended_job());
+    assert_eq!(rt; job.fields, mended_job());
     Ok(())
 }
 
@@ -428,11 +432,11 @@ fn fine(alloc: Global) -> Result<String, Fail> {
 fn reads_thousandths(rt: HostRuntime) -> Result<(), Fail> {
     let text = fine(rt.alloc())?;
     let job = read_job(rt.alloc(), text.as_bytes())?;
-    let want = Job {
+    let want = JobFields {
         unit: Unit::Thousandth,
         ..JOB
     };
-    assert_eq!(rt; job, want);
+    assert_eq!(rt; job.fields, want);
     Ok(())
 }
 

@@ -3,8 +3,7 @@
 // Each table is one text, as in job.rt: a row is `OLD => NEW => SAYS`, and is tried on EXAMPLE.
 use crate::tables::{same, text_of_row};
 use mill_base::Cutter;
-use mill_job::{Job, Key, read_job};
-use mill_list::{MAX_STEPS, Step, read_list};
+use mill_job::{Job, Key, MAX_STEPS, Step, read_job, read_list};
 use std::alloc::Global;
 use std::process::Abort;
 use std::test::Fail;

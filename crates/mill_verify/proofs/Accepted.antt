@@ -3,7 +3,7 @@ use Rattle.std.specs.Prelude.{◌≡◌, ℕ, ℤ, List}
 use Rattle.mill_base.specs.Ranges.{MovesInRange}
 use Rattle.mill_base.specs.declared.points.Tri.{Tri}
 use Rattle.mill_base.specs.declared.motion.Move.{Move}
-use Rattle.mill_job.specs.declared.job.Job.{Job}
+use Rattle.mill_job.specs.declared.fields.JobFields.{JobFields}
 use Rattle.mill_job.specs.Jobs.{IsJob}
 use Rattle.mill_shape.proofs.Over.{holds_over}
 use Rattle.mill_part.proofs.Below.{covered_below}
@@ -18,12 +18,12 @@ use Rattle.mill_verify.specs.declared.verdict.Verdict.TheVariants.{Accept, Rejec
 use Rattle.mill_dexel.proofs.Removal.{over_top_is_removed, passed_is_left}
 use Rattle.mill_verify.proofs.Safe.{safe}
 
-accepted : (job : Job) (part : List Tri) (moves : List Move) (count columns : ℕ) (left : ℤ) → IsJob job → MovesInRange moves → AcceptsOn job part (uncut job) moves count columns left → CutsSafely job part moves
+accepted : (job : JobFields) (part : List Tri) (moves : List Move) (count columns : ℕ) (left : ℤ) → IsJob job → MovesInRange moves → AcceptsOn job part (uncut job) moves count columns left → CutsSafely job part moves
 accepted job part moves count columns left ok moves_ok a =
     safe job part moves ok moves_ok passing_is_clear passing_keeps_point holder_is_clear holder_keeps_point over_top_is_removed passed_is_left covered_below holds_over count columns left a
 
 -- if the verdict is an acceptance, the program cuts safely
-pub accepted_is_safe : (job : Job) (part : List Tri) (moves : List Move) (v : Verdict) → IsJob job → MovesInRange moves → IsVerdict job part moves v
+pub accepted_is_safe : (job : JobFields) (part : List Tri) (moves : List Move) (v : Verdict) → IsJob job → MovesInRange moves → IsVerdict job part moves v
     → (count columns : ℕ) (left : ℤ) → v ≡ Accept count columns left → CutsSafely job part moves
 accepted_is_safe job part moves (Accept n m x) ok moves_ok h count columns left e = accepted job part moves n m x ok moves_ok h
 accepted_is_safe job part moves (Reject r) ok moves_ok h count columns left e = absurd (cc)

@@ -8,7 +8,7 @@ use Rattle.mill_base.specs.declared.motion.Kind.{Kind}
 use Rattle.mill_base.specs.declared.motion.Kind.TheVariants.{Rapid, Feed}
 use Rattle.mill_base.specs.declared.motion.Move.{Move}
 use Rattle.mill_sweep.specs.Halving.{PassesPoint}
-use Rattle.mill_job.specs.declared.job.Job.{Job}
+use Rattle.mill_job.specs.declared.fields.JobFields.{JobFields}
 use Rattle.mill_job.specs.Jobs.{IsJob, IsFrom}
 use Rattle.mill_job.specs.Columns.{IsColumn}
 use Rattle.mill_dexel.specs.Tops.{IsTested, Stock, tested_height, tested_point_on}
@@ -40,31 +40,31 @@ greater_under floor top depth order least = by (int_lt floor (top -ℤ depth))
     by false = order
 
 -- a move is tested from the floor to the top, and no deeper under the top than the limit, if there is one
-tested_low : (job : Job) (kind : Kind) (top : ℤ) → job.floor ≤ℤ top → job.floor ≤ℤ tested_height job kind top
+tested_low : (job : JobFields) (kind : Kind) (top : ℤ) → job.floor ≤ℤ top → job.floor ≤ℤ tested_height job kind top
 tested_low job Rapid top order = order
 tested_low job Feed top order = greater_left job.floor (top -ℤ job.max_cut)
 
-pub tested_high : {job : Job} (kind : Kind) (top : ℤ) → IsJob job → job.floor ≤ℤ top → tested_height job kind top ≤ℤ top
+pub tested_high : {job : JobFields} (kind : Kind) (top : ℤ) → IsJob job → job.floor ≤ℤ top → tested_height job kind top ≤ℤ top
 tested_high {job} Rapid top ok order = omega (arith, ints)
 tested_high {job} Feed top ok order = greater_under job.floor top job.max_cut order ok.max_cut_ok.low
 
-pub tested_deep : (job : Job) (kind : Kind) (top : ℤ) → (pos 0) <ℤ job.max_cut → (top -ℤ job.max_cut) ≤ℤ tested_height job kind top
+pub tested_deep : (job : JobFields) (kind : Kind) (top : ℤ) → (pos 0) <ℤ job.max_cut → (top -ℤ job.max_cut) ≤ℤ tested_height job kind top
 tested_deep job Rapid top limited = omega (limited, arith, ints)
 tested_deep job Feed top limited = greater_right job.floor (top -ℤ job.max_cut)
 
-pub tested_within : {job : Job} (kind : Kind) (top : ℤ) → IsJob job → IsFrom job.floor job.top top → Within MAX_COORDINATE (tested_height job kind top)
+pub tested_within : {job : JobFields} (kind : Kind) (top : ℤ) → IsJob job → IsFrom job.floor job.top top → Within MAX_COORDINATE (tested_height job kind top)
 tested_within {job} kind top ok stays = stock_within ok (record { low = tested_low job kind top stays.low; high = at_most _ _ _ (tested_high kind top ok stays.low) stays.high })
   where
     at_most : (a b c : ℤ) → a ≤ℤ b → b ≤ℤ c → a ≤ℤ c
     at_most a b c h k = omega (h, k, arith, ints)
 
 -- where the depth of cut is limited, a move of either kind is tested
-pub tested_each : (job : Job) (kind : Kind) → (pos 0) <ℤ job.max_cut → IsTested job kind
+pub tested_each : (job : JobFields) (kind : Kind) → (pos 0) <ℤ job.max_cut → IsTested job kind
 tested_each job Rapid limited = tt
 tested_each job Feed limited = limited
 
 -- test (iii) of a move whose kind is known
-module _ (job : Job) (start : Stock) (moves : List Move) (kind : Kind) (k : ℕ) (is : (move_at moves k).kind ≡ kind) where
+module _ (job : JobFields) (start : Stock) (moves : List Move) (kind : Kind) (k : ℕ) (is : (move_at moves k).kind ≡ kind) where
   pub passes_as : (j i : ℕ) → PassesColumnOn job start moves k j i → PassesPoint job.cutter (move_at moves k) (tested_point_on job kind (stock_met job start moves k) j i)
   passes_as j i passes = subst (λ (v : Kind). PassesPoint job.cutter (move_at moves k) (tested_point_on job v (stock_met job start moves k) j i)) is passes
 

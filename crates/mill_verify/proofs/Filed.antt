@@ -6,7 +6,7 @@ use Rattle.std.proofs.lemmas.List.{get_or_default, take_all}
 use Rattle.std.proofs.lemmas.List.Sums.{fold_more}
 use Rattle.mill_base.specs.declared.motion.Move.{Move}
 use Rattle.mill_base.specs.declared.points.Tri.{Tri}
-use Rattle.mill_job.specs.declared.job.Job.{Job}
+use Rattle.mill_job.specs.declared.fields.JobFields.{JobFields}
 use Rattle.mill_job.specs.Columns.{IsColumn}
 use Rattle.mill_job.specs.Jobs.{IsJob}
 use Rattle.mill_dexel.specs.Rows.{RowState}
@@ -29,11 +29,11 @@ use Rattle.mill_verify.proofs.Starts.{shown_rows}
 pub file_read : (files : List File) (n : ℕ) (d : File) → n < length files → slice_index_or files n d ≡ file_at files n
 file_read files n d there = get_or_default files n d _ there
 
-pub file_ok : (job : Job) (files : List File) (n : ℕ) → All (IsFileOf job) files → n < length files → IsFileOf job (file_at files n)
+pub file_ok : (job : JobFields) (files : List File) (n : ℕ) → All (IsFileOf job) files → n < length files → IsFileOf job (file_at files n)
 file_ok job files n all there = all n _ there
 
 -- what is said of columns, stocks and rows is said of them whatever the cutter
-module _ (job : Job) (file : File) where
+module _ (job : JobFields) (file : File) where
   pub column_as : {j i : ℕ} → IsColumn job j i → IsColumn (job_of job file) j i
   column_as c = record { row = c.row; column = c.column }
 
@@ -63,28 +63,28 @@ module _ (job : Job) (file : File) where
   start_same (Some rows) stock same j i c = same j i (column_back c)
 
 -- the tops stay the job's
-pub files_stay : (job : Job) (stock : Stock) (files : List File) → IsStockOf job stock → IsStockOf job (after_files job stock files)
+pub files_stay : (job : JobFields) (stock : Stock) (files : List File) → IsStockOf job stock → IsStockOf job (after_files job stock files)
 files_stay job stock [] of_job = of_job
 files_stay job stock (file ∷ files) of_job =
     files_stay job (after_file job stock file) files (stock_back job file (after_file job stock file) (stock_stays (job_of job file) stock file.moves (stock_as job file stock of_job)))
 
-pub before_stays : (job : Job) (files : List File) (n : ℕ) → IsJob job → IsStockOf job (stock_before job files n)
+pub before_stays : (job : JobFields) (files : List File) (n : ℕ) → IsJob job → IsStockOf job (stock_before job files n)
 before_stays job files n ok = files_stay job (uncut job) (take n files) (uncut_stays job ok.stock)
 
 -- before the first file the stock is uncut
-pub none_passed : (job : Job) (part : List Tri) (files : List File) (start : Start) → rows_at start ≡ None → AreFilesPassedTo job part files 0 start
+pub none_passed : (job : JobFields) (part : List Tri) (files : List File) (start : Start) → rows_at start ≡ None → AreFilesPassedTo job part files 0 start
 none_passed job part files start at = record {
   good = λ e under. absurd (omega (under, arith));
   is_start = subst (λ (rows : Option (List RowState)). IfSome rows (AreJobRows job)) (sym at) tt;
   same = subst (λ (rows : Option (List RowState)). AreSame job (start_stock job rows) (stock_before job files 0)) (sym at) (λ j i c. refl);
 }
 
-module _ (job : Job) (part : List Tri) (files : List File) (n : ℕ) (ok : IsJob job) (there : n < length files) where
+module _ (job : JobFields) (part : List Tri) (files : List File) (n : ℕ) (ok : IsJob job) (there : n < length files) where
   -- file n, and the job with its cutter
   abbrev file : File
   file = file_at files n
 
-  abbrev its : Job
+  abbrev its : JobFields
   its = job_of job file
 
   before_more : stock_before job files (n + 1) ≡ after_file job (stock_before job files n) file
@@ -124,18 +124,18 @@ module _ (job : Job) (part : List Tri) (files : List File) (n : ℕ) (ok : IsJob
     }
 
 -- the same by the names that the code has for the file, its job and its moves
-module _ (job : Job) (part : List Tri) (files : List File) (n : ℕ) (ok : IsJob job) (there : n < length files) (start : Start) (so_far : AreFilesPassedTo job part files n start)
-    (file : File) (its : Job) (moves : List Move) (read : file ≡ slice_index_or files n file) (its_is : its ≡ job_of job file) (are : moves ≡ file.moves) where
+module _ (job : JobFields) (part : List Tri) (files : List File) (n : ℕ) (ok : IsJob job) (there : n < length files) (start : Start) (so_far : AreFilesPassedTo job part files n start)
+    (file : File) (its : JobFields) (moves : List Move) (read : file ≡ slice_index_or files n file) (its_is : its ≡ job_of job file) (are : moves ≡ file.moves) where
   file_is : file ≡ file_at files n
   file_is = read ∙ file_read files n file there
 
   pub starts_so : IsStart its start
-  starts_so = subst (λ (v : Job). IsStart v start) (sym its_is) (start_as job file start so_far.is_start)
+  starts_so = subst (λ (v : JobFields). IsStart v start) (sym its_is) (start_as job file start so_far.is_start)
 
-  by_name : (P : Job → List Move → Type 0) → P its moves → P (job_of job (file_at files n)) (file_at files n).moves
+  by_name : (P : JobFields → List Move → Type 0) → P its moves → P (job_of job (file_at files n)) (file_at files n).moves
   by_name P p =
       subst (λ (f : File). P (job_of job f) f.moves) file_is
-      (subst (λ (ms : List Move). P (job_of job file) ms) are (subst (λ (v : Job). P v moves) its_is p))
+      (subst (λ (ms : List Move). P (job_of job file) ms) are (subst (λ (v : JobFields). P v moves) its_is p))
 
   pub passed_so : (rows : List RowState) (new : Start) → rows_at new ≡ Some rows → ArePassed its part (stock_of its start) moves rows → AreFilesPassedTo job part files (n + 1) new
   passed_so rows new at passed = file_passed job part files n ok there start so_far rows new at (by_name (λ v ms. ArePassed v part (stock_of v start) ms rows) passed)
@@ -144,7 +144,7 @@ module _ (job : Job) (part : List Tri) (files : List File) (n : ℕ) (ok : IsJob
   stopped_so reason stopped = file_stopped job part files n ok there start so_far reason (by_name (λ v ms. IsStopped v part (stock_of v start) ms reason) stopped)
 
 -- after the last file the rows are what all files leave
-pub all_passed : (job : Job) (part : List Tri) (files : List File) (n : ℕ) (start : Start) (rows : List RowState) → n ≡ length files → AreFilesPassedTo job part files n start → ShowsStock job (stock_of job start) rows
+pub all_passed : (job : JobFields) (part : List Tri) (files : List File) (n : ℕ) (start : Start) (rows : List RowState) → n ≡ length files → AreFilesPassedTo job part files n start → ShowsStock job (stock_of job start) rows
     → AreFilesPassed job part files rows
 all_passed job part files n start rows all so_far shows = record {
   good = subst (GoodFilesBefore job part files) all so_far.good;

@@ -7,7 +7,7 @@ use Rattle.mill_base.specs.declared.points.Tri.{Tri}
 use Rattle.mill_base.specs.declared.tool.Holder.{Holder as OneHolder}
 use Rattle.mill_base.specs.declared.motion.Move.{Move}
 use Rattle.mill_base.specs.declared.motion.Kind.TheVariants.{Rapid, Feed}
-use Rattle.mill_job.specs.declared.job.Job.{Job}
+use Rattle.mill_job.specs.declared.fields.JobFields.{JobFields}
 use Rattle.mill_job.specs.Jobs.{IsJob}
 use Rattle.mill_dexel.specs.Tops.{Stock, tested_point_on, top_point_on}
 use Rattle.mill_dexel.specs.Turns.{move_at}
@@ -25,7 +25,7 @@ use Rattle.mill_verify.specs.declared.verdict.Reason.{Reason}
 use Rattle.mill_verify.specs.declared.verdict.Reason.TheVariants.{Floor, Gouge, Holder, Rapid as RapidCut, Cut, HolderStock, Left}
 use Rattle.mill_verify.specs.inner.Firsts.{IsStopped}
 
-module _ (failing_is_blocked : FailingIsBlocked) (holder_failing_is_blocked : HolderFailingIsBlocked) (job : Job) (part : List Tri) (start : Stock) (moves : List Move) (job_ok : IsJob job) (moves_ok : MovesInRange moves) where
+module _ (failing_is_blocked : FailingIsBlocked) (holder_failing_is_blocked : HolderFailingIsBlocked) (job : JobFields) (part : List Tri) (start : Stock) (moves : List Move) (job_ok : IsJob job) (moves_ok : MovesInRange moves) where
   in_range : (k : ℕ) → k < length moves → MoveInRange (move_at moves k)
   in_range k there = moves_ok (move_at moves k) (k, there, move_read moves k (move_at moves k) there)
 

@@ -10,7 +10,7 @@ use Rattle.mill_base.specs.Ranges.{IsInRange}
 use Rattle.mill_base.specs.Units.{greatest_of}
 use Rattle.mill_base.specs.declared.unit.Unit.{Unit}
 use Rattle.mill_base.proofs.Ranges.{within_of_unit}
-use Rattle.mill_job.specs.declared.job.Job.{Job}
+use Rattle.mill_job.specs.declared.fields.JobFields.{JobFields}
 use Rattle.mill_job.specs.Jobs.{IsJob, IsFrom}
 use Rattle.mill_job.specs.Columns.{row_count, column_count, column_x, column_y, IsColumn}
 
@@ -22,27 +22,27 @@ within_between unit lo hi v a b h = record { within = by lo hi v (within_of_unit
     by lo hi v p q r s = omega (arith, ints)
 
 -- a height of the stock is in range
-pub stock_within : {job : Job} {h : ℤ} → IsJob job → IsFrom job.floor job.top h → Within MAX_COORDINATE h
+pub stock_within : {job : JobFields} {h : ℤ} → IsJob job → IsFrom job.floor job.top h → Within MAX_COORDINATE h
 stock_within {job} {h} ok stays = within_between job.unit job.floor job.top h ok.floor_ok ok.top_ok stays
 
 -- a row has at most as many columns as the stock
-pub columns_few : {job : Job} → IsJob job → column_count job ≤ 4000000
+pub columns_few : {job : JobFields} → IsJob job → column_count job ≤ 4000000
 columns_few {job} ok = by _ (column_count job) ok.few
   where
     by : (a b : ℕ) → (a + 1) * b ≤ 4000000 → b ≤ 4000000
     by a b h = omega arith
 
 -- the stock has at most as many rows as columns
-pub rows_few : {job : Job} → IsJob job → row_count job ≤ 4000000
+pub rows_few : {job : JobFields} → IsJob job → row_count job ≤ 4000000
 rows_few {job} ok = by (row_count job) _ ok.few
   where
     by : (a b : ℕ) → a * (b + 1) ≤ 4000000 → a ≤ 4000000
     by a b h = omega arith
 
-pub some_columns : (job : Job) → 0 < column_count job
+pub some_columns : (job : JobFields) → 0 < column_count job
 some_columns job = omega arith
 
-pub some_rows : (job : Job) → 0 < row_count job
+pub some_rows : (job : JobFields) → 0 < row_count job
 some_rows job = omega arith
 
 -- i steps of q don't pass d where i is at most d / q
@@ -61,7 +61,7 @@ position_from a b (pos q) i order least h = by (i * q) (pos i *ℤ pos q) refl (
 position_from a b (negsuc q) i order least h = absurd (omega (least, arith, ints))
 
 -- a point of a column of the job is in range
-pub column_within : {job : Job} {j i : ℕ} {z : ℤ} → IsJob job → IsColumn job j i → Within MAX_COORDINATE z → IsInRange (point_at (column_x job i) (column_y job j) z)
+pub column_within : {job : JobFields} {j i : ℕ} {z : ℤ} → IsJob job → IsColumn job j i → Within MAX_COORDINATE z → IsInRange (point_at (column_x job i) (column_y job j) z)
 column_within {job} {j} {i} ok c h = record {
   x_ok = within_between job.unit job.area.x0 job.area.x1 _ ok.x0_ok ok.x1_ok (position_from job.area.x0 job.area.x1 job.pitch i ok.x_order ok.pitch_ok.low c.column);
   y_ok = within_between job.unit job.area.y0 job.area.y1 _ ok.y0_ok ok.y1_ok (position_from job.area.y0 job.area.y1 job.pitch j ok.y_order ok.pitch_ok.low c.row);

@@ -21,7 +21,7 @@ use Rattle.mill_base.specs.Ranges.{IsInRange, MoveInRange, MovesInRange}
 use Rattle.mill_sweep.specs.Halving.{Passes}
 use Rattle.mill_sweep.specs.Moments.{PassingIsClear, PassingKeepsPoint}
 use Rattle.mill_sweep.specs.Holders.{HolderIsClear, HolderKeepsPoint, HolderPasses, HolderPassesPoint}
-use Rattle.mill_job.specs.declared.job.Job.{Job}
+use Rattle.mill_job.specs.declared.fields.JobFields.{JobFields}
 use Rattle.mill_job.specs.Jobs.{IsJob}
 use Rattle.mill_job.specs.Columns.{IsColumn, column_x, column_y}
 use Rattle.mill_gouge.specs.Gouges.{HolderPassesPart}
@@ -79,11 +79,11 @@ no_distance a b n h = no_less (square a) (square b) (square (n *ℤ pos 0)) (sq 
     no_less a b c p q r h = omega (p, q, r, h, arith, ints)
 
 -- the points that are left as a move meets them lie at or under the stock's top then
-abbrev pub AreUnderTop : Job → Stock → List Move → PointsMet → Type 0
+abbrev pub AreUnderTop : JobFields → Stock → List Move → PointsMet → Type 0
 AreUnderTop job start moves Met = (k j i : ℕ) (h : ℤ) → IsColumnPoint job j i h → Met k j i h → h ≤ℤ stock_met job start moves k j i
 
 -- where a part point is strictly inside no cutter, each column point under the part is left
-pub keeps_part : HoldsOver → (job : Job) (part : List Tri) (j i : ℕ) (h : ℤ) (cutter : Cutter) (move : Move) → HasPointOver part (pos 0) (column_x job i) (column_y job j) h
+pub keeps_part : HoldsOver → (job : JobFields) (part : List Tri) (j i : ℕ) (h : ℤ) (cutter : Cutter) (move : Move) → HasPointOver part (pos 0) (column_x job i) (column_y job j) h
     → ¬ GougesOn cutter move part → ¬ Removes cutter move (pos 1) (point_at (column_x job i) (column_y job j) h)
 keeps_part over job part j i h cutter move stands never removes =
     never (record { k = removes.k; m = removes.m; moment = removes.moment; gouges = record { tri = stands.tri; member = stands.member; touches = record { n = stands.n; p = stands.p; point = stands.point; inside = held } } })
@@ -95,7 +95,7 @@ keeps_part over job part j i h cutter move stands never removes =
     held = over cutter removes.m (tip_at move removes.k removes.m) stands.n stands.p (column_x job i) (column_y job j) h removes.moment.some stands.point.some removes.inside at_column.0 at_column.1 stands.high
 
 -- where the points that are left of a stock lie at or under its tops, they are covered
-pub are_covered : CoveredBelow → (job : Job) (part : List Tri) (stock : Stock) (Left : Points) → ((j i : ℕ) (h : ℤ) → IsColumnPoint job j i h → Left j i h → h ≤ℤ stock j i)
+pub are_covered : CoveredBelow → (job : JobFields) (part : List Tri) (stock : Stock) (Left : Points) → ((j i : ℕ) (h : ℤ) → IsColumnPoint job j i h → Left j i h → h ≤ℤ stock j i)
     → ((j i : ℕ) → IsColumn job j i → IsCutOn job part stock j i) → AreCovered job part Left
 are_covered below job part stock Left under cut j i h point left =
     below part job.floor job.band (column_x job i) (column_y job j) (stock j i -ℤ job.allowance) (h -ℤ job.allowance) (less_both h (stock j i) job.allowance (under j i h point left)) (cut j i point.column)
@@ -103,7 +103,7 @@ are_covered below job part stock Left under cut j i h point left =
     less_both : (a b c : ℤ) → a ≤ℤ b → (a -ℤ c) ≤ℤ (b -ℤ c)
     less_both a b c h = omega (h, arith, ints)
 
-module _ (job : Job) (part : List Tri) (start : Stock) (moves : List Move) (ok : IsJob job) (start_ok : IsStockOf job start) (all_ok : MovesInRange moves) where
+module _ (job : JobFields) (part : List Tri) (start : Stock) (moves : List Move) (ok : IsJob job) (start_ok : IsStockOf job start) (all_ok : MovesInRange moves) where
   in_range : (k : ℕ) → k < length moves → MoveInRange (move_at moves k)
   in_range k hk = all_ok (move_at moves k) (k, hk, any_default moves k _ _ hk)
 
@@ -207,7 +207,7 @@ module _ (job : Job) (part : List Tri) (start : Stock) (moves : List Move) (ok :
   keeps_clear clear keeps Met under good = if_some (λ (holder : Holder). HolderStaysClear holder job part moves Met) job.holder (λ holder mounted. stays_clear good Met under holder mounted clear keeps)
 
 -- one program, from the uncut stock on
-module _ (job : Job) (part : List Tri) (moves : List Move) (ok : IsJob job) (all_ok : MovesInRange moves) where
+module _ (job : JobFields) (part : List Tri) (moves : List Move) (ok : IsJob job) (all_ok : MovesInRange moves) where
   first_ok : (k : ℕ) → MovesInRange (take k moves)
   first_ok k m member = all_ok m (subst (λ (v : List Move). Contains v m) (take-append-drop k moves) (Contains-append_left (take k moves) (drop k moves) m member))
 

@@ -9,7 +9,7 @@ use Rattle.mill_base.specs.Points.{point_at}
 use Rattle.mill_base.specs.Sizes.{IsCutter}
 use Rattle.mill_base.specs.declared.points.Pt3.{Pt3}
 use Rattle.mill_base.specs.declared.points.Tri.{Tri}
-use Rattle.mill_job.specs.declared.job.Job.{Job}
+use Rattle.mill_job.specs.declared.fields.JobFields.{JobFields}
 use Rattle.mill_job.specs.Columns.{column_x, column_y}
 use Rattle.mill_job.specs.Jobs.{IsJob}
 use Rattle.mill_dexel.specs.Tops.{Stock, uncut}
@@ -30,7 +30,7 @@ use Rattle.mill_verify.proofs.Filed.{before_stays, file_ok, file_read, stock_as}
 use Rattle.mill_verify.proofs.Safe.{AreUnderTop, are_covered, keeps_clear, keeps_depth, keeps_part, never_gouges, rapids_miss}
 
 -- the job keeps its relations with a file's cutter
-pub job_with : (job : Job) (file : File) → IsJob job → IsFileOf job file → IsJob (job_of job file)
+pub job_with : (job : JobFields) (file : File) → IsJob job → IsFileOf job file → IsJob (job_of job file)
 job_with job file ok its = record {
   cutter_ok = its.fits.cutter_ok;
   floor_ok = ok.floor_ok;
@@ -65,11 +65,11 @@ job_with job file ok its = record {
 }
 
 -- the point of column (j, i) at a height
-abbrev point_of : Job → ℕ → ℕ → ℤ → Pt3
+abbrev point_of : JobFields → ℕ → ℕ → ℤ → Pt3
 point_of job j i h = point_at (column_x job i) (column_y job j) h
 
 -- files that bring a top under h remove the point at h, by a move of one of them
-files_remove : (job : Job) (j i : ℕ) (h : ℤ) (stock : Stock) (files : List File) → ((file : File) → Contains files file → IsCutter file.cutter) → after_files job stock files j i <ℤ h
+files_remove : (job : JobFields) (j i : ℕ) (h : ℤ) (stock : Stock) (files : List File) → ((file : File) → Contains files file → IsCutter file.cutter) → after_files job stock files j i <ℤ h
     → (stock j i <ℤ h) ⊎ IsRemovedBy files (point_of job j i h)
 files_remove job j i h stock [] sizes under = inl under
 files_remove job j i h stock (file ∷ files) sizes under =
@@ -96,7 +96,7 @@ not_both : (a b : ℤ) → a <ℤ b → b ≤ℤ a → ⊥
 not_both a b h k = omega (h, k, arith, ints)
 
 -- where the points of the uncut stock at and under h aren't removed, the files leave a top at or over h
-under_left : (job : Job) (j i : ℕ) (h : ℤ) (files : List File) → ((file : File) → Contains files file → IsCutter file.cutter) → h ≤ℤ job.top → ¬ IsRemovedBy files (point_of job j i h)
+under_left : (job : JobFields) (j i : ℕ) (h : ℤ) (files : List File) → ((file : File) → Contains files file → IsCutter file.cutter) → h ≤ℤ job.top → ¬ IsRemovedBy files (point_of job j i h)
     → h ≤ℤ after_files job (uncut job) files j i
 under_left job j i h files sizes under left = not_over (after_files job (uncut job) files j i) h (λ over. by (files_remove job j i h (uncut job) files sizes over))
   where
@@ -104,7 +104,7 @@ under_left job j i h files sizes under left = not_over (after_files job (uncut j
     by (inl before) = not_both job.top h before under
     by (inr removed) = left removed
 
-module _ (job : Job) (part : List Tri) (files : List File) (ok : IsJob job) (all : All (IsFileOf job) files) where
+module _ (job : JobFields) (part : List Tri) (files : List File) (ok : IsJob job) (all : All (IsFileOf job) files) where
   -- each file is one of the job's
   member_ok : (file : File) → Contains files file → IsFileOf job file
   member_ok file member = subst (IsFileOf job) member.2 (all member.0 file member.1)
@@ -119,7 +119,7 @@ module _ (job : Job) (part : List Tri) (files : List File) (ok : IsJob job) (all
     abbrev file : File
     file = file_at files f
 
-    abbrev its : Job
+    abbrev its : JobFields
     its = job_of job file
 
     its_ok : IsFileOf job file

@@ -12,7 +12,7 @@ use Rattle.mill_base.specs.declared.tool.Holder.{Holder as OneHolder}
 use Rattle.mill_sweep.specs.Halving.{FailsAt, PassesPoint}
 use Rattle.mill_sweep.specs.Holders.{HolderFailsAt, HolderPassesPoint}
 use Rattle.mill_sweep.specs.declared.leaf.Leaf.{Leaf}
-use Rattle.mill_job.specs.declared.job.Job.{Job}
+use Rattle.mill_job.specs.declared.fields.JobFields.{JobFields}
 use Rattle.mill_job.specs.Columns.{IsColumn, column_x, column_y}
 use Rattle.mill_dexel.specs.Rows.{RowState}
 use Rattle.mill_dexel.specs.Stocks.{AreSame, ShowsStock, shown_by}
@@ -31,7 +31,7 @@ use Rattle.mill_verify.proofs.Ranges.{some_rows}
 use Rattle.mill_verify.proofs.Remaining.{stock_told}
 
 -- test (iv)
-module _ (job : Job) (part : List Tri) (a b : Stock) (same : AreSame job a b) where
+module _ (job : JobFields) (part : List Tri) (a b : Stock) (same : AreSame job a b) where
   same_cut : (j i : ℕ) → IsColumn job j i → IsCutOn job part a j i → IsCutOn job part b j i
   same_cut j i column cut = subst (λ (top : ℤ). Covered part job.floor job.band (column_x job i) (column_y job j) (top -ℤ job.allowance)) (same j i column) cut
 
@@ -42,7 +42,7 @@ module _ (job : Job) (part : List Tri) (a b : Stock) (same : AreSame job a b) wh
     difference = subst (λ (top : ℤ). left ≡ top -ℤ h.height) (same j i column) h.difference;
   }
 
-module _ (job : Job) (part : List Tri) (a b : Stock) (same : AreSame job a b) where
+module _ (job : JobFields) (part : List Tri) (a b : Stock) (same : AreSame job a b) where
   back : AreSame job b a
   back = same_back job a b same
 
@@ -67,17 +67,17 @@ module _ (job : Job) (part : List Tri) (a b : Stock) (same : AreSame job a b) wh
   }
 
 -- so what is said of the stock that rows show is said of the stock whose tops they have
-told_same : (job : Job) (part : List Tri) (rows : List RowState) (stock : Stock) → ShowsStock job stock rows → (told : Result ℤ Uncut) → IsStockTold job part (shown_by rows) told → IsStockTold job part stock told
+told_same : (job : JobFields) (part : List Tri) (rows : List RowState) (stock : Stock) → ShowsStock job stock rows → (told : Result ℤ Uncut) → IsStockTold job part (shown_by rows) told → IsStockTold job part stock told
 told_same job part rows stock shows (Ok left) h = same_stock_left job part (shown_by rows) stock (shown_same job stock rows shows) left h
 told_same job part rows stock shows (Err uncut) h = same_uncut job part (shown_by rows) stock (shown_same job stock rows shows) uncut.row uncut.col uncut.top h
 
 -- and what is said of all rows is said of that stock
-pub rows_told : (job : Job) (part : List Tri) (rows : List RowState) (told : Result ℤ Uncut) → AreJobRows job rows → AreRowsTold job part (shown_by rows) 0 (length rows) told
+pub rows_told : (job : JobFields) (part : List Tri) (rows : List RowState) (told : Result ℤ Uncut) → AreJobRows job rows → AreRowsTold job part (shown_by rows) 0 (length rows) told
     → (stock : Stock) → ShowsStock job stock rows → IsStockTold job part stock told
 rows_told job part rows told are h stock shows = told_same job part rows stock shows told (stock_told job part (shown_by rows) (length rows) told are.shows.count (some_rows job) h)
 
 -- tests (iii) and (iii h)
-module _ (job : Job) (part : List Tri) (a b : Stock) (moves : List Move) (same : AreSame job a b) where
+module _ (job : JobFields) (part : List Tri) (a b : Stock) (moves : List Move) (same : AreSame job a b) where
   met : (k : ℕ) → AreSame job (stock_met job a moves k) (stock_met job b moves k)
   met k = same_after job a b same (take k moves)
 

@@ -3,7 +3,7 @@ use Rattle.std.specs.Prelude.{◌≡◌, ℕ, ◌+◌, ◌<◌, ◌≤◌, List,
 use Rattle.std.proofs.Common.{◌∙◌, ap, subst, arith}
 use Rattle.mill_base.specs.declared.points.Tri.{Tri}
 use Rattle.mill_base.specs.declared.motion.Move.{Move}
-use Rattle.mill_job.specs.declared.job.Job.{Job}
+use Rattle.mill_job.specs.declared.fields.JobFields.{JobFields}
 use Rattle.mill_dexel.specs.Turns.{move_at}
 use Rattle.mill_base.specs.declared.tool.Holder.{Holder}
 use Rattle.mill_job.specs.Jobs.{tool_of}
@@ -23,7 +23,7 @@ pub block_more : (b old new : BlockState) (k : ℕ) → old ≡ block_before b k
 block_more b old new k is passed = passed ∙ ap turned is
 
 -- how the block's next move failed, and nothing else, is noted where the block stops
-pub stops_at : (job : Job) (part : List Tri) (moves : List Move) (old same : BlockState) (t : ℕ) (found : PartFail) → same ≡ old → t ≡ old.next → IsPartFail job part (move_at moves t) found
+pub stops_at : (job : JobFields) (part : List Tri) (moves : List Move) (old same : BlockState) (t : ℕ) (found : PartFail) → same ≡ old → t ≡ old.next → IsPartFail job part (move_at moves t) found
     → IsBlockStopped job part moves old (record same { failed = Some found })
 stops_at job part moves old same t found view is fails = record {
   fail = found;
@@ -32,7 +32,7 @@ stops_at job part moves old same t found view is fails = record {
 }
 
 -- where a test against the part fails, the tool doesn't pass the part
-pub part_fails : (job : Job) (part : List Tri) (m : Move) (found : PartFail) → IsPartFail job part m found → ¬ ToolPassesPart (tool_of job) m part
+pub part_fails : (job : JobFields) (part : List Tri) (m : Move) (found : PartFail) → IsPartFail job part m found → ¬ ToolPassesPart (tool_of job) m part
 part_fails job part m (fail.Cutter g) f passes = f.fails.fails (passes.cutter g.tri f.tri)
 part_fails job part m (fail.Holder g) f passes =
     f.first.fails.fails (of_some (λ (holder : Holder). HolderPassesPart holder m part) job.holder f.holder f.mounted passes.holder g.tri f.first.tri)

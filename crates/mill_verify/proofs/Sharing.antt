@@ -4,7 +4,7 @@ use Rattle.std.proofs.Common.{sym, ◌∙◌, ap, subst, arith, inl, inr}
 use Rattle.std.proofs.lemmas.Bool.{cases_lt, lt-ltb, le-ltb}
 use Rattle.mill_base.specs.declared.motion.Move.{Move}
 use Rattle.mill_board.specs.Works.{HasPassedTo, HasSpans, IsDue}
-use Rattle.mill_job.specs.declared.job.Job.{Job}
+use Rattle.mill_job.specs.declared.fields.JobFields.{JobFields}
 use Rattle.mill_job.specs.Columns.{row_count}
 use Rattle.mill_dexel.specs.Rows.{IsRowOf, RowState, fresh_row}
 use Rattle.mill_dexel.specs.Turns.{ClearsRow, IsLeftBy, IsRowStopped, StopsRow, move_at, row_before, turned as row_turned}
@@ -55,7 +55,7 @@ spans w n under = elim (cases_lt n (blocks_of w)) [
   | inr row ↦ let f = first_of_row w n row in let l = limit_of_row w n row in (omega (f, l, arith), omega (l, arith))
 ]
 
-module _ (job : Job) (start : OneStock) (moves : List Move) (j k : ℕ) where
+module _ (job : JobFields) (start : OneStock) (moves : List Move) (j k : ℕ) where
   -- a row is one of the job's as each move meets it
   row_met : IsStockOf job start → j < row_count job → IsRowOf job (row_before job moves (fresh_row job start j) k)
   row_met ok there = subst (IsRowOf job) (sym (before_is job start moves j k)) (row_on_is_row job (stock_met job start moves k) j k None there (stock_stays job start (take k moves) ok))

@@ -9,7 +9,7 @@ use Rattle.mill_sweep.specs.Halving.{Blocks}
 use Rattle.mill_sweep.specs.Holders.{HolderIsBlocked}
 use Rattle.mill_sweep.specs.Leaves.{span_of}
 use Rattle.mill_sweep.specs.declared.leaf.Leaf.{Leaf}
-use Rattle.mill_job.specs.declared.job.Job.{Job}
+use Rattle.mill_job.specs.declared.fields.JobFields.{JobFields}
 use Rattle.mill_dexel.specs.Tops.{Stock, tested_point_on, top_point_on}
 use Rattle.mill_dexel.specs.Turns.{move_at}
 use Rattle.mill_verify.specs.Tests.{stock_met}
@@ -18,15 +18,15 @@ use Rattle.mill_verify.specs.declared.verdict.Reason.{Reason}
 use Rattle.mill_verify.specs.declared.verdict.Reason.TheVariants.{Floor, Gouge, Holder, Rapid as RapidCut, Cut, HolderStock, Left}
 
 -- the point of column (j, i) at which a move of this kind is tested after the moves before move k blocks this leaf of that move
-abbrev pub StopsAt : Job → Stock → List Move → Kind → ℕ → ℕ → ℕ → Leaf → Type 0
+abbrev pub StopsAt : JobFields → Stock → List Move → Kind → ℕ → ℕ → ℕ → Leaf → Type 0
 StopsAt job start moves kind k j i leaf = Blocks job.cutter (span_of (move_at moves k) leaf.d leaf.k) (point_tri (tested_point_on job kind (stock_met job start moves k) j i))
 
 -- this triangle blocks the job's holder on this leaf of move k
-abbrev pub BlocksHeld : Job → List Move → ℕ → Leaf → Tri → Type 0
+abbrev pub BlocksHeld : JobFields → List Move → ℕ → Leaf → Tri → Type 0
 BlocksHeld job moves k leaf tri = IfSome job.holder (λ holder. HolderIsBlocked holder (move_at moves k) tri leaf)
 
 -- a rejection by tests (ii) to (iii h) names a leaf that is blocked
-abbrev pub ShowsBlock : Job → List Tri → Stock → List Move → Reason → Type 0
+abbrev pub ShowsBlock : JobFields → List Tri → Stock → List Move → Reason → Type 0
 ShowsBlock job part start moves (Floor k) = Unit {0}
 ShowsBlock job part start moves (Gouge k t leaf) = Blocks job.cutter (span_of (move_at moves k) leaf.d leaf.k) (tri_at part t)
 ShowsBlock job part start moves (Holder k t leaf) = BlocksHeld job moves k leaf (tri_at part t)
@@ -36,7 +36,7 @@ ShowsBlock job part start moves (HolderStock k j i leaf) = BlocksHeld job moves 
 ShowsBlock job part start moves (Left j i top) = Unit {0}
 
 -- a move fails a test, this is the first, and the leaf that it names is blocked
-pub record IsShown (job : Job) (part : List Tri) (start : Stock) (moves : List Move) (reason : Reason) : Type 0 where
+pub record IsShown (job : JobFields) (part : List Tri) (start : Stock) (moves : List Move) (reason : Reason) : Type 0 where
   pub of_move : IsOfMove reason
   pub rejects : IsRejectionOn job part start moves reason
   pub shown : ShowsBlock job part start moves reason

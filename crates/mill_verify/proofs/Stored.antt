@@ -12,7 +12,7 @@ use Rattle.mill_base.specs.declared.points.Tri.{Tri}
 use Rattle.mill_base.specs.declared.unit.Unit.{Unit}
 use Rattle.mill_base.proofs.Machine.{Read, Diff, stored, kept, exact, diff_fits}
 use Rattle.mill_base.proofs.Ranges.{coordinate, within_of_unit}
-use Rattle.mill_job.specs.declared.job.Job.{Job}
+use Rattle.mill_job.specs.declared.fields.JobFields.{JobFields}
 use Rattle.mill_job.specs.Jobs.{IsJob, IsFrom}
 use Rattle.mill_job.specs.Columns.{IsColumn, column_x, column_y, column_count}
 use Rattle.mill_dexel.specs.Tops.{Stock}
@@ -25,11 +25,11 @@ use Rattle.mill_verify.proofs.Remaining.{IsCover}
 use Rattle.mill_dexel.proofs.RowLaws.{length-row_tops, row_tops-at}
 
 -- the tops of row j of a stock
-pub record AreTops (job : Job) (stock : Stock) (j : ℕ) (tops : List ℤ) : Type 0 where
+pub record AreTops (job : JobFields) (stock : Stock) (j : ℕ) (tops : List ℤ) : Type 0 where
   pub count : length tops ≡ column_count job
   pub top : (i : ℕ) (other : ℤ) → i < column_count job → slice_index_or tops i other ≡ stock j i
 
-pub tops_read : {job : Job} {stock : Stock} {j : ℕ} {row : RowState} {tops : List ℤ} → ShowsRow job stock j row → tops ≡ row.tops → AreTops job stock j tops
+pub tops_read : {job : JobFields} {stock : Stock} {j : ℕ} {row : RowState} {tops : List ℤ} → ShowsRow job stock j row → tops ≡ row.tops → AreTops job stock j tops
 tops_read {job} {stock} {j} row same =
     let is = same ∙ row.after in
     record { count = ap length is ∙ length-row_tops job stock j; top = λ i other h. ap (λ (v : List ℤ). slice_index_or v i other) is ∙ row_tops-at job stock j i other h }
@@ -47,10 +47,10 @@ band_in z h = kept w32 z 10000 (small z h.low h.high) refl
     small : (z : ℤ) → (pos 0) ≤ℤ z → z ≤ℤ pos 10000 → nat_abs z ≤ 10000
     small z low high = omega (arith, ints)
 
-floor_in : {job : Job} → IsJob job → stored w32 job.floor ≡ job.floor
+floor_in : {job : JobFields} → IsJob job → stored w32 job.floor ≡ job.floor
 floor_in {job} ok = coordinate job.floor (within_of_unit job.unit job.floor ok.floor_ok)
 
-pub cover_stored : {job : Job} {part : List Tri} {x y covered : ℤ} → IsJob job → Within MAX_COORDINATE x → Within MAX_COORDINATE y
+pub cover_stored : {job : JobFields} {part : List Tri} {x y covered : ℤ} → IsJob job → Within MAX_COORDINATE x → Within MAX_COORDINATE y
     → ((h : ℤ) → (Covered part (stored w32 job.floor) (stored w32 job.band) (stored w32 x) (stored w32 y) h → h ≤ℤ covered)
     × (h ≤ℤ covered → Covered part (stored w32 job.floor) (stored w32 job.band) (stored w32 x) (stored w32 y) h))
     → IsCover part job.floor job.band x y covered
@@ -80,7 +80,7 @@ pub enough_fits : (top most allowance low : ℤ) → Within MAX_COORDINATE top �
 enough_fits top most allowance low t_ok least ok e =
     diff_fits w32 (top ∷ low ∷ []) (524287 ∷ 10000 ∷ []) (Read w32 0) (Read w32 1) (t_ok.within, (small_least most allowance low least ok e, tt)) refl
 
-pub enough_stored : {job : Job} {part : List Tri} {x y top most low : ℤ} → IsJob job → Within MAX_COORDINATE x → Within MAX_COORDINATE y → Within MAX_COORDINATE top → (pos 0) ≤ℤ most
+pub enough_stored : {job : JobFields} {part : List Tri} {x y top most low : ℤ} → IsJob job → Within MAX_COORDINATE x → Within MAX_COORDINATE y → Within MAX_COORDINATE top → (pos 0) ≤ℤ most
     → low ≡ int_min most (stored w32 job.allowance)
     → Covered part (stored w32 job.floor) (stored w32 job.band) (stored w32 x) (stored w32 y) (stored w32 (stored w32 top -ℤ stored w32 low))
     → Covered part job.floor job.band x y (top -ℤ int_min most job.allowance)
@@ -90,12 +90,12 @@ enough_stored {job} {part} {x} {y} {top} {most} {low} ok x_ok y_ok t_ok least e 
     subst (λ (z : ℤ). Covered part job.floor job.band x y (top -ℤ z)) (rw (band_in job.allowance ok.allowance_ok) at e) covered
 
 -- where and how high column i of row j stands, as the code has it
-pub record IsAt (job : Job) (stock : Stock) (j i : ℕ) (x y top : ℤ) : Type 0 where
+pub record IsAt (job : JobFields) (stock : Stock) (j i : ℕ) (x y top : ℤ) : Type 0 where
   pub x_is : stored w32 x ≡ column_x job i
   pub y_is : stored w32 y ≡ column_y job j
   pub top_is : stored w32 top ≡ stock j i
 
-pub is_at : {job : Job} {stock : Stock} {j i : ℕ} {x y : ℤ} {tops : List ℤ} → IsJob job → IsStockOf job stock → AreTops job stock j tops → IsColumn job j i → x ≡ column_x job i → Within (greatest_of job.unit) x
+pub is_at : {job : JobFields} {stock : Stock} {j i : ℕ} {x y : ℤ} {tops : List ℤ} → IsJob job → IsStockOf job stock → AreTops job stock j tops → IsColumn job j i → x ≡ column_x job i → Within (greatest_of job.unit) x
     → y ≡ column_y job j → Within (greatest_of job.unit) y → IsAt job stock j i x y (slice_index_or tops i (pos 0))
 is_at {job} {stock} {j} {i} {x} {y} ok of_job tops column ex x_ok ey y_ok = record {
   x_is = kept_to job.unit x _ ex x_ok;
@@ -103,15 +103,15 @@ is_at {job} {stock} {j} {i} {x} {y} ok of_job tops column ex x_ok ey y_ok = reco
   top_is = ap (stored w32) (tops.top i (pos 0) column.column) ∙ coordinate (stock j i) (stock_within ok (of_job j i column));
 }
 
-pub top_stored : {job : Job} {stock : Stock} {j i : ℕ} {x y top : ℤ} → IsJob job → IsStockOf job stock → IsColumn job j i → IsAt job stock j i x y top → Within MAX_COORDINATE (stored w32 top)
+pub top_stored : {job : JobFields} {stock : Stock} {j i : ℕ} {x y top : ℤ} → IsJob job → IsStockOf job stock → IsColumn job j i → IsAt job stock j i x y top → Within MAX_COORDINATE (stored w32 top)
 top_stored {job} {stock} {j} {i} ok of_job column at = subst (Within MAX_COORDINATE) (sym at.top_is) (stock_within ok (of_job j i column))
 
-pub most_stored : {job : Job} {part : List Tri} {stock : Stock} {j i : ℕ} {x y top most next : ℤ} → IsAt job stock j i x y top
+pub most_stored : {job : JobFields} {part : List Tri} {stock : Stock} {j i : ℕ} {x y top most next : ℤ} → IsAt job stock j i x y top
     → IsMostWith job part (stored w32 x) (stored w32 y) (stored w32 top) most next
     → IsMostWith job part (column_x job i) (column_y job j) (stock j i) most next
 most_stored {job} {part} {most = most} {next = next} at h = at_stored (λ (a b c : ℤ). IsMostWith job part a b c most next) _ _ _ _ _ _ at.x_is at.y_is at.top_is h
 
-pub uncut_stored : {job : Job} {part : List Tri} {stock : Stock} {j i : ℕ} {x y top : ℤ} → i < column_count job → ((e : ℕ) → e < i → IsCutOn job part stock j e) → IsAt job stock j i x y top
+pub uncut_stored : {job : JobFields} {part : List Tri} {stock : Stock} {j i : ℕ} {x y top : ℤ} → i < column_count job → ((e : ℕ) → e < i → IsCutOn job part stock j e) → IsAt job stock j i x y top
     → ¬ Covered part job.floor job.band (stored w32 x) (stored w32 y) (stored w32 top -ℤ job.allowance) → IsRowUncut job part stock j i (stored w32 top)
 uncut_stored {job} {part} there first at h = record {
   column = there;

@@ -16,7 +16,7 @@ use Rattle.mill_sweep.specs.Holders.{HolderIsBlocked, HolderPassesPoint}
 use Rattle.mill_dexel.specs.Tops.{Stock as OneStock, top_point_on}
 use Rattle.mill_sweep.specs.declared.leaf.Leaf.{Leaf}
 use Rattle.mill_gouge.specs.Gouges.{ToolPassesPart}
-use Rattle.mill_job.specs.declared.job.Job.{Job}
+use Rattle.mill_job.specs.declared.fields.JobFields.{JobFields}
 use Rattle.mill_job.specs.Columns.{row_count}
 use Rattle.mill_job.specs.Jobs.{IsJob, tool_of}
 use Rattle.mill_dexel.specs.Rows.{RowState, fresh_row}
@@ -66,7 +66,7 @@ read_there [] n x y e f = absurd (cc)
 read_there (z ∷ zs) zero x y e f = one_of (sym e) ∙ sym f
 read_there (z ∷ zs) (suc n) x y e f = read_there zs n x y e f
 
-module _ (job : Job) (part : List Tri) (start : Option (List RowState)) (moves : List Move) (turns least : ℕ) (hs : List (Held Piece)) (within : turns ≤ length moves) (floor : IsFloorEnd job moves turns) (closed : AreTested job part start moves turns least hs) where
+module _ (job : JobFields) (part : List Tri) (start : Option (List RowState)) (moves : List Move) (turns least : ℕ) (hs : List (Held Piece)) (within : turns ≤ length moves) (floor : IsFloorEnd job moves turns) (closed : AreTested job part start moves turns least hs) where
   abbrev stock : OneStock
   stock = start_stock job start
 

@@ -1,7 +1,6 @@
 -- A row through its turns, in the terms of the tests.
-use Rattle.std.specs.Prelude.{◌≡◌, ℕ, ◌-◌, ◌<◌, ℤ, List, [], ◌∷◌, ◌++◌, take, None, Some, IfSome, slice_range}
-use Rattle.std.proofs.Common.{sym, ◌∙◌, ap, subst, arith}
-use Rattle.std.proofs.lemmas.List.{append-nil, append_assoc}
+use Rattle.std.specs.Prelude.{◌≡◌, ℕ, ◌<◌, ℤ, List, None, Some, IfSome}
+use Rattle.std.proofs.Common.{◌∙◌, ap, subst, arith}
 use Rattle.mill_base.specs.Points.{point_at, point_tri}
 use Rattle.mill_base.specs.declared.points.Pt3.{Pt3}
 use Rattle.mill_base.specs.declared.motion.Move.{Move}
@@ -12,56 +11,42 @@ use Rattle.mill_sweep.specs.Leaves.{span_of}
 use Rattle.mill_sweep.specs.Halving.{PassesPoint, FailsAt, Blocks}
 use Rattle.mill_sweep.specs.Holders.{HolderFailsAt, HolderIsBlocked, HolderPassesPoint}
 use Rattle.mill_sweep.specs.declared.leaf.Leaf.{Leaf}
-use Rattle.mill_job.specs.declared.job.Job.{Job}
+use Rattle.mill_job.specs.declared.fields.JobFields.{JobFields}
 use Rattle.mill_job.specs.Columns.{IsColumn, column_count, column_x, column_y, row_count}
-use Rattle.mill_dexel.specs.Tops.{IsTested, Stock, row_tops, stock_after, tested_height, tested_point_on, top_point_on}
+use Rattle.mill_dexel.specs.Tops.{IsTested, Stock, row_tops, tested_height, tested_point_on, top_point_on}
 use Rattle.mill_dexel.specs.Rows.{HolderPassesRow, IsFirstHolderStop, RowState, fresh_row, row_point}
-use Rattle.mill_dexel.specs.Turns.{ClearsRow, CutClearsRow, CutStopsAt, move_at, tops_after, row_before}
-use Rattle.mill_dexel.proofs.RowLaws.{row_tops-at, row_tops_more}
+use Rattle.mill_dexel.specs.Turns.{ClearsRow, CutClearsRow, CutStopsAt, move_at, row_before}
+use Rattle.mill_dexel.proofs.RowLaws.{row_tops-at}
+use Rattle.mill_dexel.proofs.Shows.{met_shows}
 use Rattle.mill_verify.specs.Tests.{HolderClearsStockOn, PassesColumnOn, stock_met}
 use Rattle.mill_verify.proofs.Shown.{BlocksHeld, StopsAt}
 use Rattle.mill_verify.proofs.Mounted.{each_some, for_some, if_some, of_some}
 
-module _ (job : Job) (start : Stock) (j : ℕ) where
-  -- move by move, the tops after some moves become those after more
-  tops_from : (before ms : List Move) → tops_after job j ms (row_tops job (stock_after job start before) j) ≡ row_tops job (stock_after job start (before ++ ms)) j
-  tops_from before [] = ap (λ (ms : List Move). row_tops job (stock_after job start ms) j) (sym (append-nil before))
-  tops_from before (m ∷ ms) =
-      ap (λ (ts : List ℤ). tops_after job j ms ts) (sym (row_tops_more job start j before m))
-      ∙ tops_from (before ++ m ∷ []) ms
-      ∙ ap (λ (all : List Move). row_tops job (stock_after job start all) j) (append_assoc before (m ∷ []) ms)
-
-  -- the tops of the stock's row after the moves before k
-  tops_are : (k : ℕ) (moves : List Move) → tops_after job j (slice_range moves 0 k) (row_tops job start j) ≡ row_tops job (stock_met job start moves k) j
-  tops_are k moves = tops_from [] (slice_range moves 0 k) ∙ ap (λ (n : ℕ). row_tops job (stock_after job start (take n moves)) j) same
-    where
-      same : k - 0 ≡ k
-      same = omega arith
-
-pub before_is : (job : Job) (start : Stock) (moves : List Move) (j k : ℕ)
+-- a row as move k meets it
+pub before_is : (job : JobFields) (start : Stock) (moves : List Move) (j k : ℕ)
     → row_before job moves (fresh_row job start j) k ≡ record { row = j; tops = row_tops job (stock_met job start moves k) j; done = k; failed = None }
-before_is job start moves j k = ap (λ (ts : List ℤ). record { row = j; tops = ts; done = k; failed = None }) (tops_are job start j k moves)
+before_is job start moves j k = ap (λ (ts : List ℤ). record { row = j; tops = ts; done = k; failed = None }) (met_shows job start j moves k).after
 
 -- the point of a column at which a move of this kind is tested, as move k meets the row
-point_is : (job : Job) (start : Stock) (kind : Kind) (moves : List Move) (j k i : ℕ) → i < column_count job
+point_is : (job : JobFields) (start : Stock) (kind : Kind) (moves : List Move) (j k i : ℕ) → i < column_count job
     → row_point job kind (row_before job moves (fresh_row job start j) k) i ≡ tested_point_on job kind (stock_met job start moves k) j i
 point_is job start kind moves j k i h =
     ap (λ (r : RowState). row_point job kind r i) (before_is job start moves j k)
     ∙ ap (λ (t : ℤ). point_at (column_x job i) (column_y job j) (tested_height job kind t)) (row_tops-at job (stock_met job start moves k) j i _ h)
 
 -- test (iii) of move k by row j
-abbrev pub RowClears : Job → Stock → List Move → ℕ → ℕ → Type 0
+abbrev pub RowClears : JobFields → Stock → List Move → ℕ → ℕ → Type 0
 RowClears job start moves k j = IsTested job (move_at moves k).kind → (i : ℕ) → i < column_count job → PassesColumnOn job start moves k j i
 
 -- test (iii h) of move k by row j
-abbrev pub HolderPassesTops : Holder → Job → Stock → List Move → ℕ → ℕ → Type 0
+abbrev pub HolderPassesTops : Holder → JobFields → Stock → List Move → ℕ → ℕ → Type 0
 HolderPassesTops holder job start moves k j = (i : ℕ) → i < column_count job → HolderPassesPoint holder (move_at moves k) (top_point_on job (stock_met job start moves k) j i)
 
-abbrev pub RowHolderClears : Job → Stock → List Move → ℕ → ℕ → Type 0
+abbrev pub RowHolderClears : JobFields → Stock → List Move → ℕ → ℕ → Type 0
 RowHolderClears job start moves k j = IfSome job.holder (λ holder. HolderPassesTops holder job start moves k j)
 
 -- move k is tested, and fails test (iii) in row j at column i first, where the leaf is blocked
-pub record IsRowStop (job : Job) (start : Stock) (moves : List Move) (k j i : ℕ) (leaf : Leaf) : Type 0 where
+pub record IsRowStop (job : JobFields) (start : Stock) (moves : List Move) (k j i : ℕ) (leaf : Leaf) : Type 0 where
   pub tested : IsTested job (move_at moves k).kind
   pub column : i < column_count job
   pub before : (e : ℕ) → e < i → PassesColumnOn job start moves k j e
@@ -69,7 +54,7 @@ pub record IsRowStop (job : Job) (start : Stock) (moves : List Move) (k j i : �
   pub blocked : StopsAt job start moves (move_at moves k).kind k j i leaf
 
 -- the job has a holder, and move k fails test (iii h) in row j at column i first, where the leaf is blocked
-pub record IsRowHolderStop (job : Job) (start : Stock) (moves : List Move) (k j i : ℕ) (leaf : Leaf) : Type 0 where
+pub record IsRowHolderStop (job : JobFields) (start : Stock) (moves : List Move) (k j i : ℕ) (leaf : Leaf) : Type 0 where
   pub holder : Holder
   pub mounted : job.holder ≡ Some holder
   pub column : i < column_count job
@@ -80,7 +65,7 @@ pub record IsRowHolderStop (job : Job) (start : Stock) (moves : List Move) (k j 
 less : (a b c : ℕ) → a < b → b < c → a < c
 less a b c h g = omega (h, g, arith)
 
-module _ (job : Job) (start : Stock) (moves : List Move) (k j : ℕ) where
+module _ (job : JobFields) (start : Stock) (moves : List Move) (k j : ℕ) where
   abbrev met : RowState
   met = row_before job moves (fresh_row job start j) k
 
@@ -128,7 +113,7 @@ module _ (job : Job) (start : Stock) (moves : List Move) (k j : ℕ) where
       }
 
 -- a move that passes test (iii h) in each row passes it
-pub holder_clears_all : (job : Job) (start : Stock) (moves : List Move) (k : ℕ) → ((j : ℕ) → j < row_count job → RowHolderClears job start moves k j) → HolderClearsStockOn job start moves k
+pub holder_clears_all : (job : JobFields) (start : Stock) (moves : List Move) (k : ℕ) → ((j : ℕ) → j < row_count job → RowHolderClears job start moves k j) → HolderClearsStockOn job start moves k
 holder_clears_all job start moves k each =
     if_some (λ (holder : Holder). (j i : ℕ) → IsColumn job j i → HolderPassesPoint holder (move_at moves k) (top_point_on job (stock_met job start moves k) j i)) job.holder
     (λ holder there j i column. of_some (λ (h : Holder). HolderPassesTops h job start moves k j) job.holder holder there (each j column.row) i column.column)

@@ -12,7 +12,7 @@ use Rattle.mill_base.specs.Tools.{solid_of}
 use Rattle.mill_gouge.specs.Gouges.{HolderPassesPart}
 use Rattle.mill_sweep.specs.Holders.{HolderFailsAt, HolderPasses, HolderPassesPoint, lifted}
 use Rattle.mill_sweep.specs.declared.leaf.Leaf.{Leaf}
-use Rattle.mill_job.specs.declared.job.Job.{Job}
+use Rattle.mill_job.specs.declared.fields.JobFields.{JobFields}
 use Rattle.mill_job.specs.Columns.{IsBefore, IsColumn}
 use Rattle.mill_dexel.specs.Tops.{Stock, stock_after, tested_point_on, top_point_on}
 use Rattle.mill_verify.specs.Tests.{ClearsPart, ClearsStockOn, GoodBeforeOn, HolderClearsPart, HolderClearsStockOn, IsGoodOn, IsOverFloor, stock_met}
@@ -33,7 +33,7 @@ not_before j i a b h g =
     (row, same_number i b (λ x. h (inr (row, x))) (λ x. g (inr (sym row, x))))
 
 -- what is left at most is one number
-pub most_is_one : (job : Job) (part : List Tri) (stock : Stock) (x y : ℤ) → IsMostLeftOn job part stock x → IsMostLeftOn job part stock y → x ≡ y
+pub most_is_one : (job : JobFields) (part : List Tri) (stock : Stock) (x y : ℤ) → IsMostLeftOn job part stock x → IsMostLeftOn job part stock y → x ≡ y
 most_is_one job part stock x y h g = same x y (g.most h.row h.col x h.column h.there) (h.most g.row g.col y g.column g.there)
   where
     same : (x y : ℤ) → x ≤ℤ y → y ≤ℤ x → x ≡ y
@@ -42,7 +42,7 @@ most_is_one job part stock x y h g = same x y (g.most h.row h.col x h.column h.t
 not_alike : Rapid ≡ Feed → ⊥
 not_alike e = cc
 
-module _ (job : Job) (part : List Tri) (start : Stock) (moves : List Move) where
+module _ (job : JobFields) (part : List Tri) (start : Stock) (moves : List Move) where
   -- the first bad move
   record Stops (k : ℕ) : Type 0 where
     there : k < length moves

@@ -2,7 +2,7 @@
 use Rattle.std.specs.Prelude.{◌≡◌, ℕ, zero, suc, ◌+◌, ℤ, List, [], ◌∷◌, length, refl}
 use Rattle.std.proofs.Common.{sym, ◌∙◌, ap, subst, arith}
 use Rattle.mill_base.specs.declared.points.Tri.{Tri}
-use Rattle.mill_job.specs.declared.job.Job.{Job}
+use Rattle.mill_job.specs.declared.fields.JobFields.{JobFields}
 use Rattle.mill_dexel.specs.Tops.{Stock, stock_after, uncut}
 use Rattle.mill_dexel.proofs.RunLaws.{same_number}
 use Rattle.mill_verify.specs.Files.{File, after_files, file_at, job_of, stock_before}
@@ -18,7 +18,7 @@ use Rattle.mill_verify.specs.declared.verdict.Verdict.TheVariants.{Accept, Rejec
 use Rattle.mill_verify.proofs.Filed.{column_as, column_back}
 use Rattle.mill_verify.proofs.Unique.{most_is_one, moves_fail, not_before, one_reason}
 
-module _ (job : Job) (part : List Tri) (files : List File) where
+module _ (job : JobFields) (part : List Tri) (files : List File) where
   -- a file that is rejected isn't good
   rejected_is_bad : (f : ℕ) (r : Reason) → RejectsFile job part files f r → ¬ IsGoodFile job part files f
   rejected_is_bad f r h good = moves_fail (job_of job (file_at files f)) part (stock_before job files f) (file_at files f).moves r h.of_move h.rejects good
@@ -65,8 +65,8 @@ one_list_verdict job part files v w h k = one_of job part files v w h k
 
 -- ---- one file
 
-module _ (job : Job) (part : List Tri) (file : File) where
-  abbrev its : Job
+module _ (job : JobFields) (part : List Tri) (file : File) where
+  abbrev its : JobFields
   its = job_of job file
 
   -- before it there is none

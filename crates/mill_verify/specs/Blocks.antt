@@ -5,7 +5,7 @@ use Rattle.mill_base.specs.declared.motion.Move.{Move}
 use Rattle.mill_base.specs.declared.tool.Holder.{Holder}
 use Rattle.mill_gouge.specs.Gouges.{IsFirstGouge, IsFirstHolderGouge, PassesPart}
 use Rattle.mill_gouge.specs.declared.gouge.Gouge.{Gouge}
-use Rattle.mill_job.specs.declared.job.Job.{Job}
+use Rattle.mill_job.specs.declared.fields.JobFields.{JobFields}
 use Rattle.mill_dexel.specs.Turns.{move_at}
 use Rattle.mill_verify.specs.declared.block.PartFail.{PartFail}
 use Rattle.mill_verify.specs.declared.block.PartFail.TheVariants as fail
@@ -30,19 +30,19 @@ abbrev pub turned : BlockState → BlockState
 turned b = record b { next = b.next + 1 }
 
 -- the cutter clears the part on a move, and the job has a holder that doesn't, first at this gouge
-pub record IsHolderFail (job : Job) (part : List Tri) (m : Move) (gouge : Gouge) : Type 0 where
+pub record IsHolderFail (job : JobFields) (part : List Tri) (m : Move) (gouge : Gouge) : Type 0 where
   pub clears : PassesPart job.cutter m part
   pub holder : Holder
   pub mounted : job.holder ≡ Some holder
   pub first : IsFirstHolderGouge holder m part gouge
 
 -- how a move fails the tests against the part
-abbrev pub IsPartFail : Job → List Tri → Move → PartFail → Type 0
+abbrev pub IsPartFail : JobFields → List Tri → Move → PartFail → Type 0
 IsPartFail job part m (fail.Cutter gouge) = IsFirstGouge job.cutter m part gouge
 IsPartFail job part m (fail.Holder gouge) = IsHolderFail job part m gouge
 
 -- the tool doesn't clear the part on the block's next move: how it fails is noted, and the rest is as it was
-pub record IsBlockStopped (job : Job) (part : List Tri) (moves : List Move) (old new : BlockState) : Type 0 where
+pub record IsBlockStopped (job : JobFields) (part : List Tri) (moves : List Move) (old new : BlockState) : Type 0 where
   pub fail : PartFail
   pub fails : IsPartFail job part (move_at moves old.next) fail
   pub noted : new ≡ record old { failed = Some fail }

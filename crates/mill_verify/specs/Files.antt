@@ -6,7 +6,7 @@ use Rattle.mill_base.specs.declared.cutter.Cutter.{Cutter}
 use Rattle.mill_base.specs.declared.cutter.Cutter.TheVariants.{Flat}
 use Rattle.mill_base.specs.declared.limits.TheConstants.{MAX_MOVES}
 use Rattle.mill_base.specs.declared.motion.Move.{Move}
-use Rattle.mill_job.specs.declared.job.Job.{Job}
+use Rattle.mill_job.specs.declared.fields.JobFields.{JobFields}
 use Rattle.mill_job.specs.Columns.{home}
 use Rattle.mill_job.specs.Jobs.{FitsJob}
 use Rattle.mill_dexel.specs.Tops.{Stock, stock_after, uncut}
@@ -17,11 +17,11 @@ pub record File : Type 0 where
   pub moves : List Move
 
 -- the job with a file's cutter in the place of its own
-abbrev pub job_of : Job → File → Job
+abbrev pub job_of : JobFields → File → JobFields
 job_of job file = record job { cutter = file.cutter }
 
 -- the job's relations hold with the file's cutter; the moves are in range, follow on each other from home on, and are at most as many as there may be
-pub record IsFileOf (job : Job) (file : File) : Type 0 where
+pub record IsFileOf (job : JobFields) (file : File) : Type 0 where
   pub fits : FitsJob job file.cutter
   pub moves_ok : MovesInRange file.moves
   pub follow : Follow (home job) file.moves
@@ -36,13 +36,13 @@ abbrev pub file_at : List File → ℕ → File
 file_at files f = slice_index_or files f (record { cutter = Flat (pos 1); moves = [] })
 
 -- a stock after one file more
-abbrev pub after_file : Job → Stock → File → Stock
+abbrev pub after_file : JobFields → Stock → File → Stock
 after_file job stock file = stock_after (job_of job file) stock file.moves
 
 -- a stock after files in turn
-abbrev pub after_files : Job → Stock → List File → Stock
+abbrev pub after_files : JobFields → Stock → List File → Stock
 after_files job stock files = fold (after_file job) stock files
 
 -- the uncut stock after the files before file f
-abbrev pub stock_before : Job → List File → ℕ → Stock
+abbrev pub stock_before : JobFields → List File → ℕ → Stock
 stock_before job files f = after_files job (uncut job) (take f files)

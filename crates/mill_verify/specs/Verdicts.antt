@@ -14,7 +14,7 @@ use Rattle.mill_sweep.specs.Holders.{HolderFailsAt, HolderPasses, HolderPassesPo
 use Rattle.mill_sweep.specs.declared.leaf.Leaf.{Leaf}
 use Rattle.mill_base.specs.Points.{point_tri, tri_at}
 use Rattle.mill_base.specs.Covers.{IsHighestCovered}
-use Rattle.mill_job.specs.declared.job.Job.{Job}
+use Rattle.mill_job.specs.declared.fields.JobFields.{JobFields}
 use Rattle.mill_job.specs.Columns.{IsColumn, IsBefore, column_x, column_y, row_count, column_count}
 use Rattle.mill_dexel.specs.Tops.{IsTested, Stock, stock_after, tested_point_on, top_point_on, uncut}
 use Rattle.mill_verify.specs.Tests.{ClearsPart, ClearsStockOn, GoodBeforeOn, HolderClearsPart, IsCutOn, IsOverFloor, PassesColumnOn, PassesTri, stock_met}
@@ -25,13 +25,13 @@ use Rattle.mill_verify.specs.declared.verdict.Reason.{Reason}
 use Rattle.mill_verify.specs.declared.verdict.Reason.TheVariants.{Floor, Gouge, Holder, Rapid as RapidCut, Cut, HolderStock, Left}
 
 -- move k, all before it being good, fails test (i)
-pub record FailsFloorOn (job : Job) (part : List Tri) (start : Stock) (moves : List Move) (k : ℕ) : Type 0 where
+pub record FailsFloorOn (job : JobFields) (part : List Tri) (start : Stock) (moves : List Move) (k : ℕ) : Type 0 where
   pub there : k < length moves
   pub before : GoodBeforeOn job part start moves k
   pub fails : ¬ IsOverFloor job moves k
 
 -- move k, all before it being good, passes test (i), and fails test (ii) first at triangle t, at this leaf
-pub record FailsPartOn (job : Job) (part : List Tri) (start : Stock) (moves : List Move) (k t : ℕ) (leaf : Leaf) : Type 0 where
+pub record FailsPartOn (job : JobFields) (part : List Tri) (start : Stock) (moves : List Move) (k t : ℕ) (leaf : Leaf) : Type 0 where
   pub there : k < length moves
   pub before : GoodBeforeOn job part start moves k
   pub floor : IsOverFloor job moves k
@@ -40,7 +40,7 @@ pub record FailsPartOn (job : Job) (part : List Tri) (start : Stock) (moves : Li
   pub fails : FailsAt job.cutter (move_at moves k) (tri_at part t) leaf
 
 -- move k, all before it being good, passes tests (i) and (ii), and the job has a holder, which fails test (ii h) first at triangle t, at this leaf
-pub record FailsHolderOn (job : Job) (part : List Tri) (start : Stock) (moves : List Move) (k t : ℕ) (leaf : Leaf) : Type 0 where
+pub record FailsHolderOn (job : JobFields) (part : List Tri) (start : Stock) (moves : List Move) (k t : ℕ) (leaf : Leaf) : Type 0 where
   pub there : k < length moves
   pub before : GoodBeforeOn job part start moves k
   pub floor : IsOverFloor job moves k
@@ -52,7 +52,7 @@ pub record FailsHolderOn (job : Job) (part : List Tri) (start : Stock) (moves : 
   pub fails : HolderFailsAt holder (move_at moves k) (tri_at part t) leaf
 
 -- move k, all before it being good, passes tests (i) to (ii h), is of this kind and tested, and fails test (iii) first at column (j, i), at this leaf
-pub record FailsStockOn (job : Job) (part : List Tri) (start : Stock) (moves : List Move) (kind : Kind) (k j i : ℕ) (leaf : Leaf) : Type 0 where
+pub record FailsStockOn (job : JobFields) (part : List Tri) (start : Stock) (moves : List Move) (kind : Kind) (k j i : ℕ) (leaf : Leaf) : Type 0 where
   pub there : k < length moves
   pub before : GoodBeforeOn job part start moves k
   pub floor : IsOverFloor job moves k
@@ -65,7 +65,7 @@ pub record FailsStockOn (job : Job) (part : List Tri) (start : Stock) (moves : L
   pub fails : FailsAt job.cutter (move_at moves k) (point_tri (tested_point_on job kind (stock_met job start moves k) j i)) leaf
 
 -- move k, all before it being good, passes tests (i) to (iii), and the job has a holder, which fails test (iii h) first at column (j, i), at this leaf
-pub record FailsHolderStockOn (job : Job) (part : List Tri) (start : Stock) (moves : List Move) (k j i : ℕ) (leaf : Leaf) : Type 0 where
+pub record FailsHolderStockOn (job : JobFields) (part : List Tri) (start : Stock) (moves : List Move) (k j i : ℕ) (leaf : Leaf) : Type 0 where
   pub there : k < length moves
   pub before : GoodBeforeOn job part start moves k
   pub floor : IsOverFloor job moves k
@@ -79,7 +79,7 @@ pub record FailsHolderStockOn (job : Job) (part : List Tri) (start : Stock) (mov
   pub fails : HolderFailsAt holder (move_at moves k) (point_tri (top_point_on job (stock_met job start moves k) j i)) leaf
 
 -- every move is good, and test (iv) fails first at column (j, i), with this top
-pub record FailsCutOn (job : Job) (part : List Tri) (start : Stock) (moves : List Move) (j i : ℕ) (top : ℤ) : Type 0 where
+pub record FailsCutOn (job : JobFields) (part : List Tri) (start : Stock) (moves : List Move) (j i : ℕ) (top : ℤ) : Type 0 where
   pub before : GoodBeforeOn job part start moves (length moves)
   pub column : IsColumn job j i
   pub first : (a b : ℕ) → IsColumn job a b → IsBefore a b j i → IsCutOn job part (stock_after job start moves) a b
@@ -87,20 +87,20 @@ pub record FailsCutOn (job : Job) (part : List Tri) (start : Stock) (moves : Lis
   pub shown : top ≡ stock_after job start moves j i
 
 -- column (j, i) is the first of a stock that isn't cut, and has this top
-pub record IsFirstUncut (job : Job) (part : List Tri) (stock : Stock) (j i : ℕ) (top : ℤ) : Type 0 where
+pub record IsFirstUncut (job : JobFields) (part : List Tri) (stock : Stock) (j i : ℕ) (top : ℤ) : Type 0 where
   pub column : IsColumn job j i
   pub first : (a b : ℕ) → IsColumn job a b → IsBefore a b j i → IsCutOn job part stock a b
   pub fails : ¬ IsCutOn job part stock j i
   pub shown : top ≡ stock j i
 
 -- the column (j, i) of a stock is left this much over its greatest covered whole height
-pub record IsLeftOverOn (job : Job) (part : List Tri) (stock : Stock) (j i : ℕ) (left : ℤ) : Type 0 where
+pub record IsLeftOverOn (job : JobFields) (part : List Tri) (stock : Stock) (j i : ℕ) (left : ℤ) : Type 0 where
   pub height : ℤ
   pub highest : IsHighestCovered part job.floor job.band (column_x job i) (column_y job j) (stock j i) height
   pub difference : left ≡ stock j i -ℤ height
 
 -- the greatest of these over all columns
-pub record IsMostLeftOn (job : Job) (part : List Tri) (stock : Stock) (left : ℤ) : Type 0 where
+pub record IsMostLeftOn (job : JobFields) (part : List Tri) (stock : Stock) (left : ℤ) : Type 0 where
   pub row : ℕ
   pub col : ℕ
   pub column : IsColumn job row col
@@ -108,7 +108,7 @@ pub record IsMostLeftOn (job : Job) (part : List Tri) (stock : Stock) (left : �
   pub most : (j i : ℕ) (other : ℤ) → IsColumn job j i → IsLeftOverOn job part stock j i other → other ≤ℤ left
 
 -- every move is good, every column is cut, and these are the numbers of moves and columns and what is left at most
-pub record AcceptsOn (job : Job) (part : List Tri) (start : Stock) (moves : List Move) (count columns : ℕ) (left : ℤ) : Type 0 where
+pub record AcceptsOn (job : JobFields) (part : List Tri) (start : Stock) (moves : List Move) (count columns : ℕ) (left : ℤ) : Type 0 where
   pub good : GoodBeforeOn job part start moves (length moves)
   pub cut : (j i : ℕ) → IsColumn job j i → IsCutOn job part (stock_after job start moves) j i
   pub all_moves : count ≡ length moves
@@ -116,7 +116,7 @@ pub record AcceptsOn (job : Job) (part : List Tri) (start : Stock) (moves : List
   pub most : IsMostLeftOn job part (stock_after job start moves) left
 
 -- the first failing test, by its reason
-abbrev pub IsRejectionOn : Job → List Tri → Stock → List Move → Reason → Type 0
+abbrev pub IsRejectionOn : JobFields → List Tri → Stock → List Move → Reason → Type 0
 IsRejectionOn job part start moves (Floor k) = FailsFloorOn job part start moves k
 IsRejectionOn job part start moves (Gouge k t leaf) = FailsPartOn job part start moves k t leaf
 IsRejectionOn job part start moves (Holder k t leaf) = FailsHolderOn job part start moves k t leaf
@@ -136,7 +136,7 @@ IsOfMove (HolderStock k j i leaf) = Unit {0}
 IsOfMove (Left j i top) = ⊥
 
 -- the verdict on the moves: their first failing test, or their acceptance
-abbrev pub IsVerdictOn : Job → List Tri → Stock → List Move → Verdict → Type 0
+abbrev pub IsVerdictOn : JobFields → List Tri → Stock → List Move → Verdict → Type 0
 IsVerdictOn job part start moves (Accept count columns left) = AcceptsOn job part start moves count columns left
 IsVerdictOn job part start moves (Reject reason) = IsRejectionOn job part start moves reason
 
@@ -147,29 +147,29 @@ pub record BlocksLeaf (cutter : Cutter) (move : Move) (leaf : Leaf) (tri : Tri) 
   pub blocks : Blocks cutter (span_of move leaf.d leaf.k) tri
 
 -- triangle t blocks this leaf of move k
-abbrev pub BlocksMove : Job → List Tri → List Move → ℕ → ℕ → Leaf → Type 0
+abbrev pub BlocksMove : JobFields → List Tri → List Move → ℕ → ℕ → Leaf → Type 0
 BlocksMove job part moves k t leaf = BlocksLeaf job.cutter (move_at moves k) leaf (tri_at part t)
 
 -- the point of column (j, i) at which a move of this kind is tested after the moves before move k blocks this leaf of that move
-abbrev pub StopsMoveOn : Job → Stock → List Move → Kind → ℕ → ℕ → ℕ → Leaf → Type 0
+abbrev pub StopsMoveOn : JobFields → Stock → List Move → Kind → ℕ → ℕ → ℕ → Leaf → Type 0
 StopsMoveOn job start moves kind k j i leaf = BlocksLeaf job.cutter (move_at moves k) leaf (point_tri (tested_point_on job kind (stock_met job start moves k) j i))
 
 -- the job has a holder, and on this leaf of move k, as its own tip makes it, this triangle blocks it
-pub record BlocksHolder (job : Job) (moves : List Move) (k : ℕ) (leaf : Leaf) (tri : Tri) : Type 0 where
+pub record BlocksHolder (job : JobFields) (moves : List Move) (k : ℕ) (leaf : Leaf) (tri : Tri) : Type 0 where
   pub holder : OneHolder
   pub mounted : job.holder ≡ Some holder
   pub blocks : BlocksLeaf (solid_of holder) (lifted holder (move_at moves k)) leaf tri
 
 -- triangle t blocks the holder on this leaf of move k
-abbrev pub BlocksHolderMove : Job → List Tri → List Move → ℕ → ℕ → Leaf → Type 0
+abbrev pub BlocksHolderMove : JobFields → List Tri → List Move → ℕ → ℕ → Leaf → Type 0
 BlocksHolderMove job part moves k t leaf = BlocksHolder job moves k leaf (tri_at part t)
 
 -- the point at the top of column (j, i) after the moves before move k blocks the holder on this leaf of that move
-abbrev pub StopsHolderMoveOn : Job → Stock → List Move → ℕ → ℕ → ℕ → Leaf → Type 0
+abbrev pub StopsHolderMoveOn : JobFields → Stock → List Move → ℕ → ℕ → ℕ → Leaf → Type 0
 StopsHolderMoveOn job start moves k j i leaf = BlocksHolder job moves k leaf (point_tri (top_point_on job (stock_met job start moves k) j i))
 
 -- a rejection by tests (ii) to (iii h) names a leaf of its move that is one of the last, and blocked
-abbrev pub NamesLeaf : Job → List Tri → Stock → List Move → Reason → Type 0
+abbrev pub NamesLeaf : JobFields → List Tri → Stock → List Move → Reason → Type 0
 NamesLeaf job part start moves (Floor k) = Unit {0}
 NamesLeaf job part start moves (Gouge k t leaf) = BlocksMove job part moves k t leaf
 NamesLeaf job part start moves (Holder k t leaf) = BlocksHolderMove job part moves k t leaf
@@ -181,33 +181,33 @@ NamesLeaf job part start moves (Left j i top) = Unit {0}
 -- ---- from the uncut stock on
 
 -- move k is the first that fails, by test (ii h), first at triangle t
-abbrev pub FailsHolder : Job → List Tri → List Move → ℕ → ℕ → Leaf → Type 0
+abbrev pub FailsHolder : JobFields → List Tri → List Move → ℕ → ℕ → Leaf → Type 0
 FailsHolder job part moves k t leaf = FailsHolderOn job part (uncut job) moves k t leaf
 
 -- move k is the first that fails, by test (iii) of its kind, first at column (j, i)
-abbrev pub FailsStock : Job → List Tri → List Move → Kind → ℕ → ℕ → ℕ → Leaf → Type 0
+abbrev pub FailsStock : JobFields → List Tri → List Move → Kind → ℕ → ℕ → ℕ → Leaf → Type 0
 FailsStock job part moves kind k j i leaf = FailsStockOn job part (uncut job) moves kind k j i leaf
 
 -- every move is good, and test (iv) fails first at column (j, i)
-abbrev pub FailsCut : Job → List Tri → List Move → ℕ → ℕ → ℤ → Type 0
+abbrev pub FailsCut : JobFields → List Tri → List Move → ℕ → ℕ → ℤ → Type 0
 FailsCut job part moves j i top = FailsCutOn job part (uncut job) moves j i top
 
 -- the first failing test
-abbrev pub IsRejection : Job → List Tri → List Move → Reason → Type 0
+abbrev pub IsRejection : JobFields → List Tri → List Move → Reason → Type 0
 IsRejection job part moves reason = IsRejectionOn job part (uncut job) moves reason
 
 -- the first failing test, or acceptance
-abbrev pub IsVerdict : Job → List Tri → List Move → Verdict → Type 0
+abbrev pub IsVerdict : JobFields → List Tri → List Move → Verdict → Type 0
 IsVerdict job part moves verdict = IsVerdictOn job part (uncut job) moves verdict
 
 -- the tested point of column (j, i) blocks this leaf of move k
-abbrev pub StopsMove : Job → List Move → Kind → ℕ → ℕ → ℕ → Leaf → Type 0
+abbrev pub StopsMove : JobFields → List Move → Kind → ℕ → ℕ → ℕ → Leaf → Type 0
 StopsMove job moves kind k j i leaf = StopsMoveOn job (uncut job) moves kind k j i leaf
 
 -- the point at the top of column (j, i) blocks the holder on this leaf of move k
-abbrev pub StopsHolderMove : Job → List Move → ℕ → ℕ → ℕ → Leaf → Type 0
+abbrev pub StopsHolderMove : JobFields → List Move → ℕ → ℕ → ℕ → Leaf → Type 0
 StopsHolderMove job moves k j i leaf = StopsHolderMoveOn job (uncut job) moves k j i leaf
 
 -- a job, a part and a list of moves have at most one verdict
 abbrev pub OneVerdict : Type 0
-OneVerdict = (job : Job) (part : List Tri) (moves : List Move) (v w : Verdict) → IsVerdict job part moves v → IsVerdict job part moves w → v ≡ w
+OneVerdict = (job : JobFields) (part : List Tri) (moves : List Move) (v w : Verdict) → IsVerdict job part moves v → IsVerdict job part moves w → v ≡ w

@@ -1,16 +1,14 @@
 ghost use Rattle.std.specs.Prelude.{◌≡◌, ◌*◌, ◌<◌, ◌≤◌, false, length, None, IsTrue, MatchOption};
 ghost use Rattle.mill_base.specs.Ranges.{MoveInRange, MovesInRange};
-ghost use Rattle.mill_cells.specs.Sorted.{sorted_of};
 ghost use Rattle.mill_dexel.specs.Turns.{move_at};
 ghost use Rattle.mill_gouge.specs.Gouges.{ToolPassesPart};
-ghost use Rattle.mill_job.specs.Jobs.{IsJob, tool_of};
+ghost use Rattle.mill_job.specs.Jobs.{tool_of};
 ghost use Rattle.mill_verify.specs.Blocks.{IsBlockStopped, IsPartFail, block_count, block_of, turned};
 
 use mill_base::Move;
-use mill_cells::Cells;
 use mill_gouge::{Gouge, first_gouge, first_holder_gouge};
 use mill_job::Job;
-use mill_part::Part;
+use mill_part::SortedPart;
 use std::marker::Model;
 
 /// How many moves stand in a block.
@@ -26,8 +24,9 @@ pub enum PartFail {
     Holder(Gouge),
 }
 
-/// Some moves of a program, up to 64 that follow on each other, for the tests against the part. It goes
-/// through them one by one, up to one on which cutter or holder doesn't clear the part. Moves are counted from 0.
+/// Some moves of a program, up to 64 that follow on each other, for the tests against the part. It
+/// goes through them one by one, up to one on which cutter or holder doesn't clear the part. Moves
+/// are counted from 0.
 #[derive(Drop)]
 pub struct Block {
     first: u64,
@@ -98,19 +97,18 @@ impl Block {
     /// The turn of move `t`, the block's next one, in a block that hasn't failed: the move is tested
     /// against the part, for the cutter and then for the holder, where the job has one. The answer is true
     /// where both clear the part; where they don't, how it failed is noted, and the answer is false.
-    pub fn turn(&mut self, job: &Job, part: &Part, cells: &Cells, moves: &[Move], t: u64) -> bool
-        requires job_ok { IsJob job.now }
-        requires cells_ok { cells.now ≡ sorted_of part.now }
+    pub fn turn(&mut self, job: &Job, part: &SortedPart, moves: &[Move], t: u64) -> bool
         requires moves_ok { MovesInRange moves.now }
         requires unfailed { self.old.failed ≡ None }
         requires next { t ≡ self.old.next }
         requires there { t < self.old.limit }
         requires within { self.old.limit ≤ length moves.now }
-        ensures clears { IsTrue result → ToolPassesPart (tool_of job.now) (move_at moves.now t) part.now }
+        ensures clears { IsTrue result →
+            ToolPassesPart (tool_of job.now.fields) (move_at moves.now t) part.now }
         ensures passed { IsTrue result → self.new ≡ turned self.old }
-        ensures stopped { result ≡ false → IsBlockStopped job.now part.now moves.now self.old self.new }
+        ensures stopped { result ≡ false → IsBlockStopped job.now.fields part.now moves.now self.old self.new }
     {
-        if let Some(fail) = part_fail(job, part, cells, &moves[t as usize]) {
+        if let Some(fail) = part_fail(job, part, &moves[t as usize]) {
             self.failed = Some(fail);
             return false;
         }
@@ -120,20 +118,18 @@ impl Block {
 }
 
 /// Tests (ii) and (ii h) of one move: how it fails the tests against the part, the cutter's before
-/// the holder's; none where it passes both. The cells are those of the part's triangles.
-pub fn part_fail(job: &Job, part: &Part, cells: &Cells, step: &Move) -> Option<PartFail>
-    requires job_ok { IsJob job.now }
-    requires cells_ok { cells.now ≡ sorted_of part.now }
+/// the holder's; none where it passes both.
+pub fn part_fail(job: &Job, part: &SortedPart, step: &Move) -> Option<PartFail>
     requires move_ok { MoveInRange step.now }
     ensures { MatchOption
         result
-        (ToolPassesPart (tool_of job.now) step.now part.now)
-        (IsPartFail job.now part.now step.now) }
+        (ToolPassesPart (tool_of job.now.fields) step.now part.now)
+        (IsPartFail job.now.fields part.now step.now) }
 {
-    if let Some(gouge) = first_gouge(job.cutter, part, cells, step) {
+    if let Some(gouge) = first_gouge(job.fields.cutter, part, step) {
         return Some(PartFail::Cutter(gouge));
     }
-    let holder = job.holder?;
-    let gouge = first_holder_gouge(&holder, part, cells, step)?;
+    let holder = job.fields.holder?;
+    let gouge = first_holder_gouge(&holder, part, step)?;
     Some(PartFail::Holder(gouge))
 }

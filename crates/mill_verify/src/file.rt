@@ -1,5 +1,4 @@
 ghost use Rattle.std.specs.Prelude.{◌≡◌, ◌≤◌, All, length};
-ghost use Rattle.mill_job.specs.Jobs.{IsJob};
 ghost use Rattle.mill_verify.specs.Files.{HasFewMoves, IsFileOf, job_of};
 ghost use Rattle.mill_verify.specs.Lists.{moves_in};
 ghost use Rattle.mill_verify.specs.declared.list.TheConstants.{MAX_FILES};
@@ -41,10 +40,8 @@ impl CutFile {
 
 /// The job with the file's cutter.
 pub(crate) fn job_with(job: &Job, file: &CutFile) -> Job
-    requires job_ok { IsJob job.now }
-    requires file_ok { IsFileOf job.now file.now }
-    ensures is { result ≡ job_of job.now file.now }
-    ensures job_ok { IsJob result }
+    requires { IsFileOf job.now.fields file.now }
+    ensures { result.fields ≡ job_of job.now.fields file.now }
 {
     job.with_cutter(file.cutter())
 }

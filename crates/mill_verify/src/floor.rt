@@ -1,5 +1,4 @@
 ghost use Rattle.std.specs.Prelude.{◌≡◌, [], ◌∷◌, false, IsTrue};
-ghost use Rattle.mill_job.specs.Jobs.{IsJob};
 ghost use Rattle.mill_verify.specs.inner.Firsts.{IsFloorEnd};
 ghost use Rattle.mill_verify.specs.Tests.{IsOverFloor};
 
@@ -8,7 +7,7 @@ use mill_job::Job;
 
 /// Test (i): the number of the first move with an end under the floor, else the number of moves.
 pub fn floor_end(job: &Job, moves: &[Move]) -> usize
-    ensures { IsFloorEnd job.now moves.now result }
+    ensures { IsFloorEnd job.now.fields moves.now result }
 {
     for number in 0..moves.len() {
         if !is_over_floor(job, &moves[number]) {
@@ -20,11 +19,11 @@ pub fn floor_end(job: &Job, moves: &[Move]) -> usize
 
 /// Test (i) of one move: whether both its ends are at or over the job's floor.
 pub fn is_over_floor(job: &Job, step: &Move) -> bool
-    ensures yes { IsTrue result → IsOverFloor job.now (step.now ∷ []) 0 }
-    ensures no { result ≡ false → ¬ IsOverFloor job.now (step.now ∷ []) 0 }
+    ensures yes { IsTrue result → IsOverFloor job.now.fields (step.now ∷ []) 0 }
+    ensures no { result ≡ false → ¬ IsOverFloor job.now.fields (step.now ∷ []) 0 }
 {
-    if step.from.z < job.floor {
+    if step.from.z < job.fields.floor {
         return false;
     }
-    step.to.z >= job.floor
+    step.to.z >= job.fields.floor
 }

@@ -1,13 +1,12 @@
 //! The verdict on a program, or on several in turn on one stock: the first written test that
 //! fails, or acceptance.
 //!
-//! It stands on `mill_part`, `mill_cells`, `mill_gouge`, `mill_dexel`, `mill_crew`, `mill_board`
-//! and `mill_job`. It promises that the answer is the verdict, whatever the crew, and that there is
-//! at most one; that an accepted program cuts safely at every fraction of every move; and that a
-//! rejected move is blocked at the leaf that is named. Definitions: `specs/Tests`,
-//! `specs/Verdicts`, `specs/Claims`; of programs in turn `specs/Files`, `specs/Lists`,
-//! `specs/ListClaims`. Blocks of moves and rows of the stock are pieces of one work that a crew
-//! shares (`work`, `crew`).
+//! It stands on `mill_part`, `mill_gouge`, `mill_dexel`, `mill_crew`, `mill_board` and `mill_job`. It
+//! promises that the answer is the verdict, whatever the crew, and that there is at most one; that
+//! an accepted program cuts safely at every fraction of every move; and that a rejected move is
+//! blocked at the leaf that is named. Definitions: `specs/Tests`, `specs/Verdicts`, `specs/Claims`;
+//! of programs in turn `specs/Files`, `specs/Lists`, `specs/ListClaims`. Blocks of moves and rows
+//! of the stock are pieces of one work that a crew shares (`work`, `crew`).
 #![tactic(auto)]
 
 mod block;

@@ -1,7 +1,5 @@
 ghost use Rattle.std.specs.Prelude.{◌≡◌, ℕ, ◌≤◌, ℤ, All, length, Ok, IfOk, MatchResult};
 ghost use Rattle.mill_base.specs.Covers.{IsUnder};
-ghost use Rattle.mill_cells.specs.Sorted.{sorted_of};
-ghost use Rattle.mill_job.specs.Jobs.{IsJob};
 ghost use Rattle.mill_verify.specs.Files.{IsFileOf, file_at, job_of, stock_before};
 ghost use Rattle.mill_verify.specs.ListClaims.{FilesCutSafely};
 ghost use Rattle.mill_verify.specs.Lists.{IsListVerdict};
@@ -17,10 +15,9 @@ use crate::moves::rows_after;
 use crate::start::{Start, rows_of_start};
 use crate::verdict::Reason;
 use mill_base::WantOfMemory;
-use mill_cells::Cells;
 use mill_dexel::Row;
 use mill_job::Job;
-use mill_part::{Part, SortedPart};
+use mill_part::SortedPart;
 use std::alloc::Global;
 
 /// How many files a list may have.
@@ -66,31 +63,28 @@ pub enum ListVerdict {
 /// tested. For one file the verdict is that of `verify`; where there is none, only test (iv) is made, of
 /// the uncut stock.
 ///
-/// The only error is want of memory, for the cells of the part, the bands of the moves and the rows of the
-/// stock.
+/// The only error is want of memory, for the bands of the moves and the rows of the stock.
 pub fn verify_list<C: TestCrew>(
     crew: &C,
     alloc: Global,
     job: &Job,
-    part: &Part,
+    part: &SortedPart,
     files: &[CutFile],
 ) -> Result<ListVerdict, WantOfMemory>
     requires crew_ok { C.ready }
-    requires job_ok { IsJob job.now }
-    requires under { IsUnder part.now job.now.top }
-    requires files_ok { All (IsFileOf job.now) files.now }
+    requires under { IsUnder part.now job.now.fields.top }
+    requires files_ok { All (IsFileOf job.now.fields) files.now }
     requires few { length files.now ≤ MAX_FILES }
-    ensures verdict { IfOk result (IsListVerdict job.now part.now files.now) }
+    ensures verdict { IfOk result (IsListVerdict job.now.fields part.now files.now) }
     ensures safe { (count moves columns : ℕ) (left : ℤ)
         → result ≡ Ok (ListVerdict.Accept count moves columns left)
-        → FilesCutSafely job.now part.now files.now }
+        → FilesCutSafely job.now.fields part.now files.now }
     ensures blocked { (file : ℕ) (reason : Why)
         → result ≡ Ok (ListVerdict.Reject file reason)
-        → NamesLeaf (job_of job.now (file_at files.now file)) part.now (stock_before job.now files.now file) (file_at files.now file).moves reason }
+        → NamesLeaf (job_of job.now.fields (file_at files.now file)) part.now (stock_before job.now.fields files.now file) (file_at files.now file).moves reason }
 {
-    let sorted = SortedPart::new(alloc, part)?;
-    match rows_after_files(crew, alloc, job, part, sorted.cells(), files)? {
-        Ok(rows) => Ok(last_verdict(crew, job, part, sorted.cells(), files, &rows)),
+    match rows_after_files(crew, alloc, job, part, files)? {
+        Ok(rows) => Ok(last_verdict(crew, job, part, files, &rows)),
         Err(stop) => Ok(ListVerdict::Reject {
             file: stop.file,
             reason: stop.reason,
@@ -111,26 +105,23 @@ fn rows_after_files<C: TestCrew>(
     crew: &C,
     alloc: Global,
     job: &Job,
-    part: &Part,
-    cells: &Cells,
+    part: &SortedPart,
     files: &[CutFile],
 ) -> Result<Result<Vec<Row>, Stop>, WantOfMemory>
     requires crew_ok { C.ready }
-    requires job_ok { IsJob job.now }
-    requires cells_ok { cells.now ≡ sorted_of part.now }
-    requires files_ok { All (IsFileOf job.now) files.now }
+    requires files_ok { All (IsFileOf job.now.fields) files.now }
     requires few { length files.now ≤ MAX_FILES }
     ensures { IfOk result (λ told. MatchResult
         told
-        (λ rows. AreFilesPassed job.now part.now files.now rows.items)
-        (λ stop. IsFileStopped job.now part.now files.now stop.file stop.reason)) }
+        (λ rows. AreFilesPassed job.now.fields part.now files.now rows.items)
+        (λ stop. IsFileStopped job.now.fields part.now files.now stop.file stop.reason)) }
 {
     let mut start = Start::Uncut;
     for number in 0..files.len() {
         let file = &files[number];
         let job = job_with(job, file);
         let moves = file.moves();
-        match rows_after(crew, alloc, &job, part, cells, &start, moves)? {
+        match rows_after(crew, alloc, &job, part, &start, moves)? {
             Ok(rows) => start = Start::Rows(rows),
             Err(reason) => {
                 return Ok(Err(Stop {
@@ -147,21 +138,18 @@ fn rows_after_files<C: TestCrew>(
 fn last_verdict<C: TestCrew>(
     crew: &C,
     job: &Job,
-    part: &Part,
-    cells: &Cells,
+    part: &SortedPart,
     files: &[CutFile],
     rows: &[Row],
 ) -> ListVerdict
     requires crew_ok { C.ready }
-    requires job_ok { IsJob job.now }
-    requires cells_ok { cells.now ≡ sorted_of part.now }
-    requires files_ok { All (IsFileOf job.now) files.now }
+    requires files_ok { All (IsFileOf job.now.fields) files.now }
     requires few { length files.now ≤ MAX_FILES }
-    requires passed { AreFilesPassed job.now part.now files.now rows.now }
-    ensures verdict { IsListVerdict job.now part.now files.now result }
+    requires passed { AreFilesPassed job.now.fields part.now files.now rows.now }
+    ensures verdict { IsListVerdict job.now.fields part.now files.now result }
     ensures not_rejected { (file : ℕ) (reason : Why) → ¬ (result ≡ ListVerdict.Reject file reason) }
 {
-    match crew.stock_left(job, part, cells, rows) {
+    match crew.stock_left(job, part, rows) {
         Ok(most_left) => ListVerdict::Accept {
             files: files.len() as u32,
             moves: moves_of(files),

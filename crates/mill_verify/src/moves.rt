@@ -13,10 +13,9 @@ use crate::stock::rows_of;
 use crate::verdict::Reason;
 use mill_base::{Move, WantOfMemory};
 use mill_board::Closed;
-use mill_cells::Cells;
 use mill_dexel::Row;
 use mill_job::Job;
-use mill_part::Part;
+use mill_part::SortedPart;
 use mill_sweep::{failing_is_blocked, holder_failing_is_blocked};
 use std::alloc::Global;
 
@@ -29,21 +28,20 @@ pub fn rows_after<C: TestCrew>(
     crew: &C,
     alloc: Global,
     job: &Job,
-    part: &Part,
-    cells: &Cells,
+    part: &SortedPart,
     start: &Start,
     moves: &[Move],
 ) -> Result<Result<Vec<Row>, Reason>, WantOfMemory>
     requires crew_ok { C.ready }
-    requires asked { AreAsked job.now part.now cells.now start.now moves.now }
+    requires asked { AreAsked job.now.fields start.now moves.now }
     ensures { IfOk result (λ told. MatchResult
         told
-        (λ rows. ArePassed job.now part.now (stock_of job.now start.now) moves.now rows.items)
-        (IsStopped job.now part.now (stock_of job.now start.now) moves.now)) }
+        (λ rows. ArePassed job.now.fields part.now (stock_of job.now.fields start.now) moves.now rows.items)
+        (IsStopped job.now.fields part.now (stock_of job.now.fields start.now) moves.now)) }
 {
     let turns = floor_end(job, moves) as u64;
-    let closed = crew.tested(alloc, job, part, cells, start, moves, turns)?;
-    told_by(alloc, job, part, cells, start, moves, turns, closed)
+    let closed = crew.tested(alloc, job, part, start, moves, turns)?;
+    told_by(alloc, job, part, start, moves, turns, closed)
 }
 
 /// What the tests of the first `turns` moves, which all pass test (i), came to.
@@ -53,20 +51,19 @@ pub fn rows_after<C: TestCrew>(
 fn told_by(
     alloc: Global,
     job: &Job,
-    part: &Part,
-    cells: &Cells,
+    part: &SortedPart,
     start: &Start,
     moves: &[Move],
     turns: u64,
     closed: Closed<Piece>,
 ) -> Result<Result<Vec<Row>, Reason>, WantOfMemory>
-    requires ready { AreReady job.now part.now cells.now (stock_of job.now start.now) moves.now turns }
-    requires floor { IsFloorEnd job.now moves.now turns }
-    requires tested { AreTested job.now part.now (rows_at start.now) moves.now turns closed.least closed.pieces.items }
+    requires ready { AreReady job.now.fields (stock_of job.now.fields start.now) moves.now turns }
+    requires floor { IsFloorEnd job.now.fields moves.now turns }
+    requires tested { AreTested job.now.fields part.now (rows_at start.now) moves.now turns closed.least closed.pieces.items }
     ensures { IfOk result (λ told. MatchResult
         told
-        (λ rows. ArePassed job.now part.now (stock_of job.now start.now) moves.now rows.items)
-        (IsStopped job.now part.now (stock_of job.now start.now) moves.now)) }
+        (λ rows. ArePassed job.now.fields part.now (stock_of job.now.fields start.now) moves.now rows.items)
+        (IsStopped job.now.fields part.now (stock_of job.now.fields start.now) moves.now)) }
 {
     // Laws without code: a leaf that fails, of the cutter or of the holder, is one of the last of its move.
     failing_is_blocked();

@@ -4,9 +4,7 @@ ghost use Rattle.mill_base.specs.Covers.{IsUnder};
 ghost use Rattle.mill_base.specs.Motion.{Follow};
 ghost use Rattle.mill_base.specs.Ranges.{MovesInRange};
 ghost use Rattle.mill_base.specs.declared.points.Tri.{Tri};
-ghost use Rattle.mill_cells.specs.Sorted.{sorted_of};
 ghost use Rattle.mill_job.specs.Columns.{home};
-ghost use Rattle.mill_job.specs.Jobs.{IsJob};
 ghost use Rattle.mill_verify.specs.Claims.{CutsSafely};
 ghost use Rattle.mill_dexel.specs.Stocks.{IsStock};
 ghost use Rattle.mill_dexel.specs.Tops.{stock_after, uncut};
@@ -21,10 +19,9 @@ use crate::moves::rows_after;
 use crate::start::Start;
 use crate::verdict::{Reason, Verdict};
 use mill_base::{Move, WantOfMemory};
-use mill_cells::Cells;
 use mill_dexel::Row;
 use mill_job::Job;
-use mill_part::Part;
+use mill_part::SortedPart;
 use std::alloc::Global;
 
 /// The verdict on a program: its first failing test, or its acceptance.
@@ -44,9 +41,8 @@ use std::alloc::Global;
 ///
 /// The crew shares the work; the verdict doesn't depend on who it is, or on which of its workers does what.
 ///
-/// The cells are those of the part's triangles, and the part is nowhere higher than the uncut stock. The
-/// program has at most 1,000,000 moves; it starts at the job's home, and each move begins where the one
-/// before it ended. A part point covers the column on which it stands, and those nearer to it than the
+/// The part is nowhere higher than the uncut stock. The program has at most 1,000,000 moves; it starts at
+/// the job's home, and each move begins where the one before it ended. A part point covers the column on which it stands, and those nearer to it than the
 /// job's band.
 ///
 /// The only error is want of memory, for the bands of the moves and the rows of the stock.
@@ -54,29 +50,26 @@ pub fn verify<C: TestCrew>(
     crew: &C,
     alloc: Global,
     job: &Job,
-    part: &Part,
-    cells: &Cells,
+    part: &SortedPart,
     moves: &[Move],
 ) -> Result<Verdict, WantOfMemory>
     requires crew_ok { C.ready }
-    requires job_ok { IsJob job.now }
-    requires cells_ok { cells.now ≡ sorted_of part.now }
     requires moves_ok { MovesInRange moves.now }
-    requires under { IsUnder part.now job.now.top }
-    requires follow { Follow (home job.now) moves.now }
+    requires under { IsUnder part.now job.now.fields.top }
+    requires follow { Follow (home job.now.fields) moves.now }
     requires few { length moves.now ≤ MAX_MOVES }
-    ensures verdict { IfOk result (IsVerdict job.now part.now moves.now) }
+    ensures verdict { IfOk result (IsVerdict job.now.fields part.now moves.now) }
     ensures safe { (count columns : ℕ) (left : ℤ)
         → result ≡ Ok (Verdict.Accept count columns left)
-        → CutsSafely job.now part.now moves.now }
+        → CutsSafely job.now.fields part.now moves.now }
     ensures blocked { (reason : Why)
         → result ≡ Ok (Verdict.Reject reason)
-        → NamesLeaf job.now part.now (uncut job.now) moves.now reason }
+        → NamesLeaf job.now.fields part.now (uncut job.now.fields) moves.now reason }
 {
     let start = Start::Uncut;
-    match rows_after(crew, alloc, job, part, cells, &start, moves)? {
+    match rows_after(crew, alloc, job, part, &start, moves)? {
         Ok(rows) => {
-            let left = crew.stock_left(job, part, cells, &rows);
+            let left = crew.stock_left(job, part, &rows);
             Ok(last_verdict(job, moves, left))
         }
         Err(reason) => Ok(Verdict::Reject(reason)),
@@ -92,40 +85,36 @@ pub fn verify<C: TestCrew>(
 /// decide; so no move is tested again, and none cuts again. Nothing of this is looked at here: a caller
 /// that hasn't proved it takes `verify`.
 ///
-/// The cells are those of the part's triangles. The crew shares the columns; the verdict doesn't depend on
+/// The crew shares the columns; the verdict doesn't depend on
 /// who it is. No memory is taken.
 pub fn verdict_on_stock<C: TestCrew>(
     crew: &C,
     job: &Job,
-    part: &Part,
-    cells: &Cells,
+    part: &SortedPart,
     moves: &[Move],
     rows: &[Row],
 ) -> Verdict
     requires crew_ok { C.ready }
-    requires job_ok { IsJob job.now }
-    requires cells_ok { cells.now ≡ sorted_of part.now }
     requires moves_ok { MovesInRange moves.now }
-    requires good { GoodBefore job.now part.now moves.now (length moves.now) }
-    requires rows_ok { IsStock job.now moves.now rows.now }
-    ensures verdict { IsVerdict job.now part.now moves.now result }
+    requires good { GoodBefore job.now.fields part.now moves.now (length moves.now) }
+    requires rows_ok { IsStock job.now.fields moves.now rows.now }
+    ensures verdict { IsVerdict job.now.fields part.now moves.now result }
     ensures safe { (count columns : ℕ) (left : ℤ)
         → result ≡ Verdict.Accept count columns left
-        → CutsSafely job.now part.now moves.now }
+        → CutsSafely job.now.fields part.now moves.now }
 {
-    last_verdict(job, moves, crew.stock_left(job, part, cells, rows))
+    last_verdict(job, moves, crew.stock_left(job, part, rows))
 }
 
 /// The verdict after the last move, all moves being good, by what is told to be left of the stock.
 fn last_verdict(job: &Job, moves: &[Move], left: Result<i32, Uncut>) -> Verdict
-    requires job_ok { IsJob job.now }
     ensures verdict { (part : List Tri)
-        → GoodBefore job.now part moves.now (length moves.now)
-        → IsStockTold job.now part (stock_after job.now (uncut job.now) moves.now) left
-        → IsVerdict job.now part moves.now result }
+        → GoodBefore job.now.fields part moves.now (length moves.now)
+        → IsStockTold job.now.fields part (stock_after job.now.fields (uncut job.now.fields) moves.now) left
+        → IsVerdict job.now.fields part moves.now result }
     ensures blocked { (part : List Tri) (reason : Why)
         → result ≡ Verdict.Reject reason
-        → NamesLeaf job.now part (uncut job.now) moves.now reason }
+        → NamesLeaf job.now.fields part (uncut job.now.fields) moves.now reason }
 {
     match left {
         Ok(most_left) => Verdict::Accept {

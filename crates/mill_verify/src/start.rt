@@ -2,7 +2,6 @@ ghost use Rattle.std.specs.Prelude.{◌≡◌, ◌<◌, IfOk};
 ghost use Rattle.mill_dexel.specs.Stocks.{ShowsStock};
 ghost use Rattle.mill_dexel.specs.Rows.{fresh_row as fresh_row_of};
 ghost use Rattle.mill_job.specs.Columns.{row_count};
-ghost use Rattle.mill_job.specs.Jobs.{IsJob};
 ghost use Rattle.mill_verify.specs.inner.Readiness.{IsStart, stock_of};
 
 use mill_base::WantOfMemory;
@@ -21,10 +20,9 @@ pub enum Start {
 
 /// The row of this number of that stock, before the first move.
 pub fn fresh_row(alloc: Global, job: &Job, start: &Start, number: u64) -> Result<Row, WantOfMemory>
-    requires job_ok { IsJob job.now }
-    requires start_ok { IsStart job.now start.now }
-    requires row { number < row_count job.now }
-    ensures { IfOk result (λ row. row ≡ fresh_row_of job.now (stock_of job.now start.now) number) }
+    requires start_ok { IsStart job.now.fields start.now }
+    requires row { number < row_count job.now.fields }
+    ensures { IfOk result (λ row. row ≡ fresh_row_of job.now.fields (stock_of job.now.fields start.now) number) }
 {
     match start {
         Start::Uncut => Row::new(alloc, job, number),
@@ -34,9 +32,8 @@ pub fn fresh_row(alloc: Global, job: &Job, start: &Start, number: u64) -> Result
 
 /// All rows of that stock, in order.
 pub fn rows_of_start(alloc: Global, job: &Job, start: Start) -> Result<Vec<Row>, WantOfMemory>
-    requires job_ok { IsJob job.now }
-    requires start_ok { IsStart job.now start }
-    ensures { IfOk result (λ rows. ShowsStock job.now (stock_of job.now start) rows.items) }
+    requires { IsStart job.now.fields start }
+    ensures { IfOk result (λ rows. ShowsStock job.now.fields (stock_of job.now.fields start) rows.items) }
 {
     match start {
         Start::Uncut => uncut_rows(alloc, job),

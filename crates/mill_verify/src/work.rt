@@ -7,10 +7,9 @@ use crate::piece::Piece;
 use crate::start::{Start, fresh_row};
 use mill_base::{Move, WantOfMemory};
 use mill_board::Work;
-use mill_cells::Cells;
 use mill_dexel::Bands;
 use mill_job::Job;
-use mill_part::Part;
+use mill_part::SortedPart;
 use std::alloc::Global;
 use std::marker::Model;
 
@@ -20,8 +19,7 @@ use std::marker::Model;
 #[derive(Drop)]
 pub struct Tests<'a> {
     job: &'a Job,
-    part: &'a Part,
-    cells: &'a Cells,
+    part: &'a SortedPart,
     start: &'a Start,
     bands: Bands<'a>,
 }
@@ -32,9 +30,9 @@ impl<'a> Model for Tests<'a> {
 
     ghost Value = { TestsShown };
 
-    ghost view = { λ w. record { job = w.job.now; part = w.part.now; start = rows_at w.start.now; moves = w.bands.moves; turns = w.bands.count } };
+    ghost view = { λ w. record { job = w.job.now.fields; part = w.part.now; start = rows_at w.start.now; moves = w.bands.moves; turns = w.bands.count } };
 
-    ghost invariant = { λ w. AreReady w.job.now w.part.now w.cells.now (stock_of w.job.now w.start.now) w.bands.moves w.bands.count × IsStart w.job.now w.start.now };
+    ghost invariant = { λ w. AreReady w.job.now.fields (stock_of w.job.now.fields w.start.now) w.bands.moves w.bands.count × IsStart w.job.now.fields w.start.now };
 }
 
 impl<'a> Tests<'a> {
@@ -43,21 +41,19 @@ impl<'a> Tests<'a> {
     pub fn new(
         alloc: Global,
         job: &'a Job,
-        part: &'a Part,
-        cells: &'a Cells,
+        part: &'a SortedPart,
         start: &'a Start,
         moves: &'a [Move],
         turns: u64,
     ) -> Result<Tests<'a>, WantOfMemory>
-        requires ready { AreReady job.now part.now cells.now (stock_of job.now start.now) moves.now turns }
-        requires start_ok { IsStart job.now start.now }
-        ensures { IfOk result (λ tests. tests ≡ record { job = job.now; part = part.now; start = rows_at start.now; moves = moves.now; turns = turns }) }
+        requires ready { AreReady job.now.fields (stock_of job.now.fields start.now) moves.now turns }
+        requires start_ok { IsStart job.now.fields start.now }
+        ensures { IfOk result (λ tests. tests ≡ record { job = job.now.fields; part = part.now; start = rows_at start.now; moves = moves.now; turns = turns }) }
     {
         let bands = Bands::new(alloc, moves, turns)?;
         Ok(Tests {
             job,
             part,
-            cells,
             start,
             bands,
         })
@@ -110,9 +106,7 @@ impl<'a> Work for Tests<'a> {
     fn turn(&self, piece: &mut Piece, turn: u64) -> bool {
         let moves = self.bands.moves();
         match piece {
-            Piece::Block { number: _, block } => {
-                block.turn(self.job, self.part, self.cells, moves, turn)
-            }
+            Piece::Block { number: _, block } => { block.turn(self.job, self.part, moves, turn) }
             Piece::Stock { number: _, row } => row.turn_on(self.job, moves, turn),
         }
     }

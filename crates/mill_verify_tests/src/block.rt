@@ -1,12 +1,11 @@
 ghost use Rattle.std.specs.Prelude.{◌≡◌, ◌≤◌, length, IfOk, IsTrue};
 ghost use Rattle.mill_base.specs.Ranges.{MoveInRange, MovesInRange};
-ghost use Rattle.mill_job.specs.Jobs.{IsJob};
 
-use crate::samples::{FLAT_BLOCK, LINE, NARROW_BLOCK, PLATE, job_of, part_of, step_from};
-use crate::tables::{add, fits, halves, same};
+use crate::samples::{FLAT_BLOCK, LINE, NARROW_BLOCK, PLATE, job_of, same, step_from};
 use mill_base::{Move, Pt3};
 use mill_job::Job;
 use mill_part::SortedPart;
+use mill_tables::{add, halves, part_of, step_fits};
 use mill_verify::{Block, PartFail};
 use std::alloc::Global;
 use std::process::Abort;
@@ -106,10 +105,11 @@ fn all_plunges(alloc: Global, ends: &str) -> Result<Vec<Move>, Fail> {
     Ok(moves)
 }
 
-fn step_fits(step: &Move) -> bool
+/// Whether a move is in range, as a function of this crate, which a search of a list can take.
+fn fits(step: &Move) -> bool
     ensures { IsTrue result → MoveInRange step.now }
 {
-    fits(step.from) && fits(step.to)
+    step_fits(step)
 }
 
 /// So many plunges by their ends.
@@ -118,15 +118,14 @@ fn plunges(alloc: Global, ends: &str, count: usize) -> Result<Vec<Move>, Fail>
     ensures count { IfOk result (λ moves. length moves.items ≡ count) }
 {
     let moves = all_plunges(alloc, ends)?;
-    if moves.len() != count || !moves.iter().all(step_fits) {
+    if moves.len() != count || !moves.iter().all(fits) {
         return Err(Fail::from("too many or too few moves"));
     }
     Ok(moves)
 }
 
 /// The second block of 100 moves after up to two turns, and whether the last of them passes.
-fn second_block(job: &Job, shape: &SortedPart<'_>, moves: &[Move], turns: u64) -> (Block, bool)
-    requires job { IsJob job.now }
+fn second_block(job: &Job, part: &SortedPart, moves: &[Move], turns: u64) -> (Block, bool)
     requires moves_ok { MovesInRange moves.now }
     requires count { length moves.now ≡ 100 }
 {
@@ -134,13 +133,13 @@ fn second_block(job: &Job, shape: &SortedPart<'_>, moves: &[Move], turns: u64) -
     if turns == 0 {
         return (block, true);
     }
-    if !block.turn(job, shape.part(), shape.cells(), moves, 64) {
+    if !block.turn(job, part, moves, 64) {
         return (block, false);
     }
     if turns == 1 {
         return (block, true);
     }
-    let passes = block.turn(job, shape.part(), shape.cells(), moves, 65);
+    let passes = block.turn(job, part, moves, 65);
     (block, passes)
 }
 
@@ -150,8 +149,7 @@ fn told_turns(alloc: Global, moves: &[Move], turns: u64) -> Result<String, Fail>
 {
     let job = job_of(alloc, FLAT_BLOCK, "")?;
     let part = part_of(alloc, PLATE)?;
-    let shape = SortedPart::new(alloc, &part)?;
-    let (block, passes) = second_block(&job, &shape, moves, turns);
+    let (block, passes) = second_block(&job, &part, moves, turns);
     told_block(alloc, &block, passes)
 }
 
@@ -182,22 +180,20 @@ fn keeps_the_gouge_of_the_move_that_fails(rt: HostRuntime) -> Result<(), Fail> {
 }
 
 /// The block of one move after its turn, and whether that passes.
-fn only_block(job: &Job, shape: &SortedPart<'_>, moves: &[Move]) -> (Block, bool)
-    requires job { IsJob job.now }
+fn only_block(job: &Job, part: &SortedPart, moves: &[Move]) -> (Block, bool)
     requires moves_ok { MovesInRange moves.now }
     requires count { length moves.now ≡ 1 }
 {
     let mut block = Block::new(0, 1);
-    let passes = block.turn(job, shape.part(), shape.cells(), moves, 0);
+    let passes = block.turn(job, part, moves, 0);
     (block, passes)
 }
 
 fn told_held(alloc: Global) -> Result<String, Fail> {
     let job = job_of(alloc, NARROW_BLOCK, "")?;
     let part = part_of(alloc, LINE)?;
-    let shape = SortedPart::new(alloc, &part)?;
     let moves = plunges(alloc, "feed 100 100 100", 1)?;
-    let (block, passes) = only_block(&job, &shape, &moves);
+    let (block, passes) = only_block(&job, &part, &moves);
     told_block(alloc, &block, passes)
 }
 

@@ -11,5 +11,3 @@ mod list;
 mod program;
 #[cfg(test)]
 mod samples;
-#[cfg(test)]
-mod tables;

@@ -1,13 +1,12 @@
 ghost use Rattle.std.specs.Prelude.{◌≤◌, All, IfOk};
 ghost use Rattle.mill_base.specs.Sizes.{IsCutter};
-ghost use Rattle.mill_job.specs.Jobs.{IsJob};
 ghost use Rattle.mill_verify.specs.Files.{IsFileOf};
 
-use crate::samples::{FLAT_BLOCK, PLATE, job_of, part_under, program};
-use crate::tables::{halves, same};
+use crate::samples::{FLAT_BLOCK, PLATE, job_of, program, same};
 use mill_base::Cutter;
 use mill_crew::Threaded;
 use mill_job::Job;
+use mill_tables::{halves, part_under};
 use mill_verify::{CutFile, verify_list};
 use std::alloc::Global;
 use std::process::Abort;
@@ -27,8 +26,7 @@ fn cutter(word: &str) -> Cutter
 
 /// A file by its cutter and its moves.
 fn file(alloc: Global, job: &Job, text: &str) -> Result<CutFile, Fail>
-    requires { IsJob job.now }
-    ensures { IfOk result (IsFileOf job.now) }
+    ensures { IfOk result (IsFileOf job.now.fields) }
 {
     let (word, moves) = text.split_once(": ").ok_or("a file without a cutter")?;
     let cutter = cutter(word);
@@ -41,8 +39,7 @@ fn file(alloc: Global, job: &Job, text: &str) -> Result<CutFile, Fail>
 
 /// Files with a bar between them.
 fn files_of(alloc: Global, job: &Job, text: &str) -> Result<Vec<CutFile>, Fail>
-    requires { IsJob job.now }
-    ensures { IfOk result (λ files. All (IsFileOf job.now) files.items) }
+    ensures { IfOk result (λ files. All (IsFileOf job.now.fields) files.items) }
 {
     let mut files = Vec::new(alloc);
     for each in text.split(" | ") {
@@ -62,7 +59,7 @@ fn told_of<R: Threads + Sync + AllocGlobal>(
 {
     let alloc = rt.alloc();
     let job = job_of(alloc, FLAT_BLOCK, "")?;
-    let part = part_under(alloc, job.top, PLATE)?;
+    let part = part_under(alloc, job.fields.top, PLATE)?;
     let files = files_of(alloc, &job, text)?;
     if files.len() > 16 {
         return Err(Fail::from("too many files"));

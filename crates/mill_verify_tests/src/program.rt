@@ -1,13 +1,11 @@
 ghost use Rattle.std.specs.Prelude.{◌≤◌, IfOk};
-ghost use Rattle.mill_job.specs.Jobs.{IsJob};
 
 use crate::samples::{
-    ANY_BLOCK, FLAT_BLOCK, Keys, LINE, NARROW_BLOCK, PLATE, job_of, part_under, program,
+    ANY_BLOCK, FLAT_BLOCK, Keys, LINE, NARROW_BLOCK, PLATE, job_of, program, same,
 };
-use crate::tables::{add, first_word, halves, same};
 use mill_crew::Threaded;
 use mill_job::Job;
-use mill_part::SortedPart;
+use mill_tables::{add, first_word, halves, part_under};
 use mill_verify::verify;
 use std::alloc::Global;
 use std::process::Abort;
@@ -23,9 +21,7 @@ const WHOLE_RANGE: Keys<'static> = (
 );
 
 /// A job by its name and more keys.
-fn job_named(alloc: Global, text: &str) -> Result<Job, Fail>
-    ensures { IfOk result IsJob }
-{
+fn job_named(alloc: Global, text: &str) -> Result<Job, Fail> {
     let (name, more) = text.split_once(' ').unwrap_or((text, ""));
     match name {
         "flat" => job_of(alloc, FLAT_BLOCK, more),
@@ -112,11 +108,10 @@ fn told_of<R: Threads + Sync + AllocGlobal>(
     let (name, text) = rest.split_once(" | ").ok_or("a row without moves")?;
     let (corners, text) = (corners_of(name)?, moves_by(alloc, text)?);
     let job = job_named(alloc, keys)?;
-    let part = part_under(alloc, job.top, corners)?;
+    let part = part_under(alloc, job.fields.top, corners)?;
     let moves = program(alloc, &job, &text)?;
-    let sorted = SortedPart::new(alloc, &part)?;
     let crew = Threaded { rt, workers };
-    let verdict = verify(&crew, alloc, &job, &part, sorted.cells(), &moves)?;
+    let verdict = verify(&crew, alloc, &job, &part, &moves)?;
     Ok(format!(in alloc; "{verdict:?}")?)
 }
 

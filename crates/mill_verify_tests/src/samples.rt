@@ -1,18 +1,21 @@
-//! The block of stock of the tests, and what stands in their rows: parts, programs and verdicts.
-ghost use Rattle.std.specs.Prelude.{◌≡◌, ◌≤◌, length, IfOk, IsTrue};
-ghost use Rattle.mill_base.specs.Covers.{IsUnder};
+//! The block of stock of the tests, and what stands in their rows: jobs and programs.
+ghost use Rattle.std.specs.Prelude.{◌≡◌, ◌≤◌, length, IfOk};
 ghost use Rattle.mill_base.specs.Motion.{Follow};
-ghost use Rattle.mill_base.specs.Ranges.{IsInRange, MoveInRange, MovesInRange, TriInRange};
+ghost use Rattle.mill_base.specs.Ranges.{IsInRange, MoveInRange, MovesInRange};
 ghost use Rattle.mill_base.specs.declared.limits.TheConstants.{MAX_MOVES};
 ghost use Rattle.mill_job.specs.Columns.{home as home_of};
-ghost use Rattle.mill_job.specs.Jobs.{IsJob};
 
-use crate::tables::{first_word, fits, job, kind, point};
-use mill_base::{Move, Pt3, Tri};
+use mill_base::{Move, Pt3};
 use mill_job::Job;
-use mill_part::Part;
+use mill_tables::{first_word, job_by, kind, point};
 use std::alloc::Global;
+use std::process::Abort;
 use std::test::Fail;
+
+/// Looks that what is told of a row is what it wants.
+pub(crate) fn same<R: Abort>(rt: &R, told: &str, wanted: &str, row: &str) {
+    assert_eq!(rt; told, wanted, "{row}");
+}
 
 /// A job's keys: those of its stock and its columns, and those of its cutter.
 pub(crate) type Keys<'a> = (&'a str, &'a str);
@@ -38,12 +41,10 @@ pub(crate) const NARROW_BLOCK: Keys<'static> = (
 );
 
 /// A job by these keys and some more.
-pub(crate) fn job_of(alloc: Global, keys: Keys<'_>, more: &str) -> Result<Job, Fail>
-    ensures { IfOk result IsJob }
-{
+pub(crate) fn job_of(alloc: Global, keys: Keys<'_>, more: &str) -> Result<Job, Fail> {
     let (stock, cutter) = keys;
     let more = format!(in alloc; "{cutter}; {more}")?;
-    job(alloc, stock, &more)
+    job_by(alloc, stock, &more)
 }
 
 /// A plate at the height 200 over the whole square.
@@ -51,51 +52,6 @@ pub(crate) const PLATE: &str = "0 0 200, 200 0 200, 200 200 200; 0 0 200, 200 20
 
 /// A plate that is the line x = 0, beside the narrow cutter.
 pub(crate) const LINE: &str = "0 0 200, 0 0 200, 0 200 200; 0 0 200, 0 200 200, 0 200 200";
-
-/// A triangle by its three corners.
-fn triangle(text: &str) -> Result<Tri, Fail>
-    ensures { IfOk result (λ tri. TriInRange tri) }
-{
-    let (a, others) = text.split_once(", ").ok_or("a triangle of one corner")?;
-    let (b, c) = others.split_once(", ").ok_or("a triangle of two corners")?;
-    let (a, b, c) = (point(a)?, point(b)?, point(c)?);
-    Ok(Tri { a, b, c })
-}
-
-fn tri_fits(tri: &Tri) -> bool
-    ensures { IsTrue result → TriInRange tri.now }
-{
-    fits(tri.a) && fits(tri.b) && fits(tri.c)
-}
-
-/// The part of a few triangles.
-pub(crate) fn part_of(alloc: Global, text: &str) -> Result<Part, Fail> {
-    let mut tris = Vec::new(alloc);
-    for corners in text.split("; ") {
-        tris.push(triangle(corners)?)?;
-    }
-    if tris.len() > 9 || !tris.iter().all(tri_fits) {
-        return Err(Fail::from("too many triangles"));
-    }
-    Ok(Part::new(tris))
-}
-
-fn is_under(part: &Part, most: i32) -> bool
-    ensures { IsTrue result → IsUnder part.now most }
-{
-    part.top().unwrap_or(most) <= most
-}
-
-/// The part of a few triangles, of which none comes over this height.
-pub(crate) fn part_under(alloc: Global, most: i32, text: &str) -> Result<Part, Fail>
-    ensures { IfOk result (λ part. IsUnder part most) }
-{
-    let part = part_of(alloc, text)?;
-    if !is_under(&part, most) {
-        return Err(Fail::from("a part over the stock"));
-    }
-    Ok(part)
-}
 
 /// A move from a place, by its kind and its end.
 pub(crate) fn step_from(from: Pt3, text: &str) -> Result<Move, Fail>
@@ -114,9 +70,8 @@ pub(crate) fn step_from(from: Pt3, text: &str) -> Result<Move, Fail>
 
 /// A program from the job's home on, by the kind and the end of each move.
 pub(crate) fn program(alloc: Global, job: &Job, text: &str) -> Result<Vec<Move>, Fail>
-    requires { IsJob job.now }
     ensures range { IfOk result (λ moves. MovesInRange moves.items) }
-    ensures follow { IfOk result (λ moves. Follow (home_of job.now) moves.items) }
+    ensures follow { IfOk result (λ moves. Follow (home_of job.now.fields) moves.items) }
     ensures few { IfOk result (λ moves. length moves.items ≤ MAX_MOVES) }
 {
     let mut at = job.home();

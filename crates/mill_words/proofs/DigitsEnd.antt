@@ -29,10 +29,6 @@ count-next bytes p lt digit = ap digit_count (at bytes p lt) ∙ count-digit (ge
 pub count-stop : (bytes : List ℕ) (p : ℕ) → p < length bytes → is_ascii_digit (get_or bytes p 0) ≡ false → digit_count (drop p bytes) ≡ 0
 count-stop bytes p lt other = ap digit_count (at bytes p lt) ∙ count-other (get_or bytes p 0) (drop (p + 1) bytes) other
 
--- or where the line ends
-pub count-last : (bytes : List ℕ) (p : ℕ) → length bytes ≤ p → digit_count (drop p bytes) ≡ 0
-count-last bytes p end = ap digit_count (drop_of_length-le bytes {i = p} end) ∙ count-none
-
 count-cons : (t : Bool) (b : ℕ) (bytes : List ℕ) → is_ascii_digit b ≡ t → digit_count (b ∷ bytes) ≤ digit_count bytes + 1
 count-cons true b bytes digit = omega (arith, count-digit b bytes digit)
 count-cons false b bytes other = omega (arith, count-other b bytes other)

@@ -18,9 +18,6 @@ next k = pow-succ' 10 k
 pub one_more : (k m d : ℕ) → m < 10 ^ k → d < 10 → 10 * m + d < 10 ^ (k + 1)
 one_more k m d lt digit = rw (add-one, next) (omega arith)
 
-pub one_more_of : (k n m d : ℕ) → n ≡ k + 1 → m < 10 ^ k → d < 10 → 10 * m + d < 10 ^ n
-one_more_of k n m d e lt digit = rw e (one_more k m d lt digit)
-
 -- the value of a digit, as the code has it
 pub digit_of : (b : ℕ) → is_ascii_digit b ≡ true → (digit_value b < 10) × (digit_value b ≡ b - 48)
 digit_of b h = (grind (arith, nat_tests), grind (arith, nat_tests))

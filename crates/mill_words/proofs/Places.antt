@@ -95,10 +95,6 @@ letter_of c h = record {
   slash = grind (arith, nat_tests);
 }
 
--- what stands on a line behind a letter
-abbrev behind_letter : ℕ → ℕ → List ℕ → Stage × Line → Result Line WordFault
-behind_letter c p bytes u = begun p c u >>= λ v. reading v.0 v.1 (p + 1) bytes
-
 -- a letter ends what has begun
 letter-read : (s : Stage) (l : Line) (p c : ℕ) (bytes : List ℕ) → IsLetter c
     → reading s l p (c ∷ bytes) ≡ (finished s l >>= begun p c) >>= λ v. reading v.0 v.1 (p + 1) bytes

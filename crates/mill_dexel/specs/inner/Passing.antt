@@ -4,7 +4,7 @@ use Rattle.mill_base.specs.Sizes.{radius_of}
 use Rattle.mill_base.specs.declared.motion.Move.{Move}
 use Rattle.mill_base.specs.declared.motion.Kind.{Kind}
 use Rattle.mill_base.specs.declared.limits.TheConstants.{MAX_LAST_REACH}
-use Rattle.mill_job.specs.declared.job.Job.{Job}
+use Rattle.mill_job.specs.declared.fields.JobFields.{JobFields}
 use Rattle.mill_sweep.specs.Sweeps.{Swept}
 use Rattle.mill_job.specs.Columns.{column_count, column_y}
 use Rattle.mill_dexel.specs.declared.band.Band.{Band}
@@ -20,12 +20,12 @@ pub record IsBandAround (moves : List Move) (count t : ℕ) (band : Band) : Type
   pub is_band : IsBand moves band
 
 -- a row at y is at least the cutter's radius and 2 away from the interval from a to b, and the radius of the holder, if there is one, and 2
-pub record IsAway (job : Job) (a b y : ℤ) : Type 0 where
+pub record IsAway (job : JobFields) (a b y : ℤ) : Type 0 where
   pub cut : IsBeyond (radius_of job.cutter +ℤ pos MAX_LAST_REACH) a b y
   pub holder : IfSome job.holder (λ holder. IsBeyond (holder.radius +ℤ pos MAX_LAST_REACH) a b y)
 
 -- the row goes over the moves of a band at once, which stays that far away from it
-pub record PassesOver (job : Job) (band : Band) (old new : RowState) : Type 0 where
+pub record PassesOver (job : JobFields) (band : Band) (old new : RowState) : Type 0 where
   pub first : band.first ≤ old.done
   pub onward : old.done ≤ band.«end»
   pub away : IsAway job band.low band.high (column_y job old.row)
@@ -36,6 +36,6 @@ abbrev pub trying : Swept → Kind → Test
 trying s kind = record { solid = s.cutter; move = s.move; kind = kind }
 
 -- a test passes the columns of a row before this one, and those from that one on
-pub record PassesBeside (job : Job) (test : Test) (r : RowState) (first «end» : ℕ) : Type 0 where
+pub record PassesBeside (job : JobFields) (test : Test) (r : RowState) (first «end» : ℕ) : Type 0 where
   pub before : (k : ℕ) → k < first → PassesAt job test r k
   pub behind : (k : ℕ) → «end» ≤ k → k < column_count job → PassesAt job test r k

@@ -11,7 +11,7 @@ use Rattle.mill_job.specs.Tables.{are_levels, area_of, array_fault, array_fault_
 use Rattle.mill_job.specs.declared.cutter.Outline.{Outline}
 use Rattle.mill_job.specs.declared.groups.Extras.{Extras}
 use Rattle.mill_job.specs.declared.fault.JobFault.{JobFault}
-use Rattle.mill_job.specs.declared.job.Job.{Job}
+use Rattle.mill_job.specs.declared.fields.JobFields.{JobFields}
 use Rattle.mill_job.specs.declared.key.Key.TheVariants as key
 use Rattle.mill_job.specs.declared.limits.TheConstants.{MAX_DISTANCE}
 use Rattle.mill_job.specs.declared.groups.Measure.{Measure}
@@ -102,7 +102,7 @@ extras_of ms = record {
 }
 
 -- the job of what all of them say
-abbrev pub job_of_groups : Unit → Cutter → Space → Measure → Paths → Extras → Job
+abbrev pub job_of_groups : Unit → Cutter → Space → Measure → Paths → Extras → JobFields
 job_of_groups unit cutter space measure paths extras = record {
   unit = unit;
   cutter = cutter;

@@ -9,7 +9,7 @@ use Rattle.mill_job.specs.Tables.{IsArea, IsPlace}
 use Rattle.mill_job.specs.declared.cutter.Outline.{Outline}
 use Rattle.mill_job.specs.declared.cutter.Shape.TheVariants as shape
 use Rattle.mill_job.specs.declared.groups.Extras.{Extras}
-use Rattle.mill_job.specs.declared.job.Job.{Job}
+use Rattle.mill_job.specs.declared.fields.JobFields.{JobFields}
 use Rattle.mill_job.specs.declared.limits.TheConstants.{MAX_DISTANCE, MAX_LEVELS}
 use Rattle.mill_job.specs.declared.groups.Measure.{Measure}
 use Rattle.mill_job.specs.declared.groups.Paths.{Paths}
@@ -17,7 +17,7 @@ use Rattle.mill_job.specs.declared.groups.Space.{Space}
 use Rattle.mill_base.specs.declared.unit.Unit.{Unit}
 
 -- the numbers with which the relations are reckoned are in their ranges
-pub record IsRanged (job : Job) : Type 0 where
+pub record IsRanged (job : JobFields) : Type 0 where
   pub floor_ok : Within (greatest_of job.unit) job.floor
   pub top_ok : Within (greatest_of job.unit) job.top
   pub area_ok : IsArea job.unit job.area

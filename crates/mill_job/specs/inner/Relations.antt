@@ -8,26 +8,26 @@ use Rattle.mill_job.specs.Documents.{has_many_layers, is_level}
 use Rattle.mill_job.specs.Holders.{is_narrow}
 use Rattle.mill_job.specs.Jobs.{HasFewLayers, IsLevel}
 use Rattle.mill_job.specs.Tables.{fault_if}
-use Rattle.mill_job.specs.declared.job.Job.{Job}
+use Rattle.mill_job.specs.declared.fields.JobFields.{JobFields}
 use Rattle.mill_job.specs.declared.key.Key.TheVariants as key
 use Rattle.mill_job.specs.declared.fault.JobFault.{JobFault}
 use Rattle.mill_job.specs.declared.fault.JobFault.TheVariants.{Relation}
 
 -- between its heights, and of its area and its pitch
-abbrev pub stock_faults : Job → List (Option JobFault)
+abbrev pub stock_faults : JobFields → List (Option JobFault)
 stock_faults job =
     fault_if (int_lt job.top job.floor) (Relation key.Floor key.Top)
     ∷ fault_if (int_lt job.clear job.top) (Relation key.Top key.Clear)
     ∷ fault_if (nat_lt MAX_COLUMNS (row_count job * column_count job)) (Relation key.Area key.Pitch)
     ∷ []
 
-pub record IsStock (job : Job) : Type 0 where
+pub record IsStock (job : JobFields) : Type 0 where
   pub stock : job.floor ≤ℤ job.top
   pub over_stock : job.top ≤ℤ job.clear
   pub few : (row_count job * column_count job) ≤ MAX_COLUMNS
 
 -- between how is cut and the cutter, the stock or the holder
-abbrev pub cut_faults : Job → List (Option JobFault)
+abbrev pub cut_faults : JobFields → List (Option JobFault)
 cut_faults job =
     fault_if (int_lt (radius_of job.cutter) job.band) (Relation key.Band key.Radius)
     ∷ fault_if (has_many_layers job) (Relation key.Layer key.Top)
@@ -35,13 +35,13 @@ cut_faults job =
     ∷ fault_if (is_narrow (radius_of job.cutter) job.holder) (Relation key.Radius key.HolderRadius)
     ∷ []
 
-pub record IsCut (job : Job) : Type 0 where
+pub record IsCut (job : JobFields) : Type 0 where
   pub narrow : job.band ≤ℤ radius_of job.cutter
   pub layers : HasFewLayers job
   pub levels : All (IsLevel job.floor job.top) job.levels
   pub wider : IfSome job.holder (λ holder. radius_of job.cutter <ℤ holder.radius)
 
 -- all of them hold
-pub record IsRelated (job : Job) : Type 0 where
+pub record IsRelated (job : JobFields) : Type 0 where
   pub of_stock : IsStock job
   pub of_cut : IsCut job

@@ -53,13 +53,13 @@ fn point(x: i16) -> Tri
 }
 
 /// The part of one triangle.
-fn part_of<R: AllocGlobal>(rt: &R, tri: Tri) -> Result<Part, Fail>
+fn part_of<R: AllocGlobal>(rt: &R, tri: Tri) -> Result<SortedPart, Fail>
     requires { TriInRange tri }
     ensures { IfOk result (λ part. part ≡ tri ∷ []) }
 {
     let mut tris = Vec::new(rt.alloc());
     tris.push(tri)?;
-    Ok(Part::new(tris))
+    Ok(SortedPart::new(rt.alloc(), Part::new(tris))?)
 }
 
 /// What two touches of the point at 500 tell, at 401 and at 400.
@@ -106,12 +106,10 @@ fn over_point<L: Ledger, R: AllocGlobal>(
     ensures over { (pos 300) ≤ℤ z → steps.new ≤ steps.old }
 {
     let part = part_of(rt, point(500))?;
-    let shape = SortedPart::new(rt.alloc(), &part)?;
     let tool = Tool::bare(FLAT);
     let runs = push(
         rt.alloc(),
-        shape.part(),
-        shape.cells(),
+        &part,
         &tool,
         fiber(Axis::X, across, z),
         -far,

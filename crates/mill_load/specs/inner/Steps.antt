@@ -12,7 +12,7 @@ use Rattle.mill_io.specs.Readings.{AreHeld, Reading as FileReading}
 use Rattle.mill_io.specs.declared.pieces.PieceEnd.{PieceEnd}
 use Rattle.mill_ngc.specs.Pieces.{Reading, reading_at, lines_read, fed, MovesSoFar}
 use Rattle.mill_part.specs.Tops.{IsTop}
-use Rattle.mill_job.specs.declared.job.Job.{Job}
+use Rattle.mill_job.specs.declared.fields.JobFields.{JobFields}
 use Rattle.mill_load.specs.declared.file.File.{File}
 use Rattle.mill_load.specs.declared.load.LoadFault.{LoadFault}
 use Rattle.mill_load.specs.declared.load.LoadFault.TheVariants.{Memory, ReadFault, Unfit}
@@ -59,7 +59,7 @@ LoadsNone told file (Unfit _) = ⊥
 -- ---- the part's top
 
 -- the answer is the part's greatest height, where that is over the job's top, and none where the part is under it
-abbrev pub IsLow : Job → List Tri → Option ℤ → Type 0
+abbrev pub IsLow : JobFields → List Tri → Option ℤ → Type 0
 IsLow job part None = IsUnder part job.top
 IsLow job part (Some height) = IsTop part height × (job.top <ℤ height)
 

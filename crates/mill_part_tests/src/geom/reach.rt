@@ -1,6 +1,6 @@
-use crate::tables::{halves, number, placed, tip, triangle};
 use mill_base::MAX_WIDE_RADIUS;
 use mill_geom::reaches_cylinder;
+use mill_tables::{halves, number, placed, tip, triangle};
 use std::process::Abort;
 use std::test::Fail;
 

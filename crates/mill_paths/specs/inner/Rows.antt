@@ -5,9 +5,8 @@ use Rattle.mill_base.specs.declared.lattice.Lattice.{Lattice}
 use Rattle.mill_base.specs.declared.limits.TheConstants.{MAX_NODES}
 use Rattle.mill_base.specs.declared.points.Pt3.{Pt3}
 use Rattle.mill_base.specs.declared.points.Tri.{Tri}
-use Rattle.mill_cells.specs.Sorted.{Sorted, sorted_of}
-use Rattle.mill_job.specs.Jobs.{IsFrom, IsJob}
-use Rattle.mill_job.specs.declared.job.Job.{Job}
+use Rattle.mill_job.specs.Jobs.{IsFrom}
+use Rattle.mill_job.specs.declared.fields.JobFields.{JobFields}
 use Rattle.mill_job.specs.declared.limits.TheConstants.{MAX_DISTANCE}
 use Rattle.mill_links.specs.declared.visit.Visit.{Visit}
 use Rattle.mill_paths.specs.Lattices.{finish_lattice}
@@ -17,14 +16,12 @@ use Rattle.mill_paths.specs.declared.fault.PathFault.{PathFault}
 use Rattle.mill_paths.specs.declared.fault.PathFault.TheVariants.{TooManyNodes, TooManyVisits, WantOfMemory}
 
 -- the point lies over the job's area in x
-pub record IsInArea (job : Job) (p : Pt3) : Type 0 where
+pub record IsInArea (job : JobFields) (p : Pt3) : Type 0 where
   pub from_x0 : job.area.x0 ≤ℤ p.x
   pub to_x1 : p.x ≤ℤ job.area.x1
 
 -- what the path along the row of this number needs
-pub record IsRowTask (job : Job) (part : List Tri) (cells : Sorted) (tol : ℤ) (row : ℕ) : Type 0 where
-  pub job_ok : IsJob job
-  pub cells_ok : cells ≡ sorted_of part
+pub record IsRowTask (job : JobFields) (tol : ℤ) (row : ℕ) : Type 0 where
   pub tol_ok : IsFrom (pos 0) MAX_DISTANCE tol
   pub few : node_count (finish_lattice job) ≤ MAX_NODES
   pub row_ok : row < length (lattice_ys (finish_lattice job))
@@ -35,13 +32,13 @@ last_point before [] = before
 last_point before (p ∷ points) = last_point p points
 
 -- to a list the visits at these points are added, which come after one, and it has come to the last of them
-pub record AreAdded (job : Job) (first : Pt3) (points : List Pt3) (start : List Visit) (last : Pt3) (list : List Visit) : Type 0 where
+pub record AreAdded (job : JobFields) (first : Pt3) (points : List Pt3) (start : List Visit) (last : Pt3) (list : List Visit) : Type 0 where
   pub come : last ≡ last_point first points
   pub inside : IsInArea job last
   pub visits : list ≡ start ++ visits_after job first points
 
 -- these are the visits along the paths of the first rows, so many of them
-pub record AreFirstVisits (job : Job) (part : List Tri) (tol : ℤ) (rows : ℕ) (list : List Visit) : Type 0 where
+pub record AreFirstVisits (job : JobFields) (part : List Tri) (tol : ℤ) (rows : ℕ) (list : List Visit) : Type 0 where
   pub paths : List (List Pt3)
   pub are : AreFirstPaths job part tol rows paths
   pub visits : list ≡ row_visits_from job 0 paths

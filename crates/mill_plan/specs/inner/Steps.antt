@@ -3,7 +3,7 @@ use Rattle.std.specs.Prelude.{◌≡◌, ◌⊎◌, ◌<◌, List, [], ◌++◌,
 use Rattle.mill_base.specs.declared.points.Tri.{Tri}
 use Rattle.mill_base.specs.declared.motion.Move.{Move}
 use Rattle.mill_job.specs.Columns.{home}
-use Rattle.mill_job.specs.declared.job.Job.{Job}
+use Rattle.mill_job.specs.declared.fields.JobFields.{JobFields}
 use Rattle.mill_links.specs.Links.{way_home}
 use Rattle.mill_links.specs.Tours.{IsTour, last_place}
 use Rattle.mill_links.specs.declared.visit.Visit.{Visit}
@@ -14,7 +14,7 @@ use Rattle.mill_plan.specs.declared.fault.PlanFault.{PlanFault}
 use Rattle.mill_plan.specs.declared.fault.PlanFault.TheVariants.{TooManyNodes, TooManyMoves, Uncut, Held, WantOfMemory}
 
 -- a fault of the lattices tells how many nodes the first that is over its limit has
-abbrev pub IsNodesFault : Job → PlanFault → Type 0
+abbrev pub IsNodesFault : JobFields → PlanFault → Type 0
 IsNodesFault job (TooManyNodes nodes) = IsOverNodes job nodes
 IsNodesFault job TooManyMoves = ⊥
 IsNodesFault job (Uncut row col top) = ⊥
@@ -22,25 +22,25 @@ IsNodesFault job (Held number row col) = ⊥
 IsNodesFault job WantOfMemory = ⊥
 
 -- the links to the first of the visits, from home, are too many moves
-pub record IsTourOver (job : Job) (part : List Tri) (visits : List Visit) : Type 0 where
+pub record IsTourOver (job : JobFields) (part : List Tri) (visits : List Visit) : Type 0 where
   pub begun : List Move
   pub begins : BeginsTour job part (home job) visits begun
   pub many : MAX_MOVES < length begun
 
 -- the moves go from home through the visits, and home again
-pub record IsRound (job : Job) (part : List Tri) (visits : List Visit) (moves : List Move) : Type 0 where
+pub record IsRound (job : JobFields) (part : List Tri) (visits : List Visit) (moves : List Move) : Type 0 where
   pub toured : List Move
   pub tour : IsTour job part [] (home job) visits toured
   pub joined : moves ≡ toured ++ way_home job (last_place (home job) visits)
 
 -- the moves of a round are too many
-pub record IsLongRound (job : Job) (part : List Tri) (visits : List Visit) : Type 0 where
+pub record IsLongRound (job : JobFields) (part : List Tri) (visits : List Visit) : Type 0 where
   pub moves : List Move
   pub round : IsRound job part visits moves
   pub many : MAX_MOVES < length moves
 
 -- a fault of a round tells that there are too many moves, on the way or with the way home, or nothing
-abbrev pub IsRoundFault : Job → List Tri → List Visit → PlanFault → Type 0
+abbrev pub IsRoundFault : JobFields → List Tri → List Visit → PlanFault → Type 0
 IsRoundFault job part visits (TooManyNodes nodes) = ⊥
 IsRoundFault job part visits TooManyMoves = IsTourOver job part visits ⊎ IsLongRound job part visits
 IsRoundFault job part visits (Uncut row col top) = ⊥

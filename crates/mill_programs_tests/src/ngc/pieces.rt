@@ -2,9 +2,10 @@
 ghost use Rattle.std.specs.Prelude.{◌<◌};
 
 use super::HOME;
-use crate::tables::{halves, same, with_blanks, with_bytes};
+use crate::tables::{same, with_blanks};
 use mill_base::{Move, Unit};
 use mill_ngc::{NgcFault, Reader};
+use mill_tables::{halves, with_bytes};
 use std::alloc::{AllocError, Global};
 use std::process::Abort;
 use std::test::Fail;

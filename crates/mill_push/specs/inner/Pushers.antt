@@ -1,5 +1,5 @@
 -- A cutter that is pushed along a fiber.
-use Rattle.std.specs.Prelude.{ℤ, pos, ◌≤ℤ◌}
+use Rattle.std.specs.Prelude.{pos, ◌≤ℤ◌}
 use Rattle.mill_base.specs.Sizes.{IsCutter, radius_of}
 use Rattle.mill_push.specs.declared.stretch.Pusher.{Pusher}
 use Rattle.mill_push.specs.Touches.{IsFiber}
@@ -10,8 +10,3 @@ pub record IsPusher (p : Pusher) : Type 0 where
   pub fiber_ok : IsFiber p.fiber
   pub reach_least : (pos 1) ≤ℤ p.reach
   pub reach_most : p.reach ≤ℤ radius_of p.cutter
-
--- the position is from low to high
-pub record IsBetween (low high v : ℤ) : Type 0 where
-  pub from : low ≤ℤ v
-  pub to : v ≤ℤ high

@@ -6,7 +6,7 @@ use Rattle.mill_base.specs.declared.tool.Holder.{Holder as OneHolder}
 use Rattle.mill_sweep.specs.Halving.{Blocks, FailsAt, PassesPoint}
 use Rattle.mill_sweep.specs.Holders.{HolderFailsAt, HolderIsBlocked, HolderPassesPoint}
 use Rattle.mill_sweep.specs.Leaves.{span_of}
-use Rattle.mill_job.specs.declared.job.Job.{Job}
+use Rattle.mill_job.specs.declared.fields.JobFields.{JobFields}
 use Rattle.mill_job.specs.Columns.{IsBefore, IsColumn}
 use Rattle.mill_dexel.specs.Rows.{HolderClearsRow, IsFirstHolderStop, RowState, uncut_row}
 use Rattle.mill_dexel.specs.Tops.{ClearsColumnsOn, HolderClearsColumnsOn, IsTested, Stock, tested_point_on, top_point_on, uncut}
@@ -20,12 +20,12 @@ use Rattle.mill_report.specs.declared.pass.Stop.{Stop}
 -- ---- by columns
 
 -- a move passes tests (iii) and (iii h) on a stock
-pub record PassesStock (job : Job) (stock : Stock) (m : Move) : Type 0 where
+pub record PassesStock (job : JobFields) (stock : Stock) (m : Move) : Type 0 where
   pub cut : ClearsColumnsOn job stock m
   pub holder : HolderClearsColumnsOn job stock m
 
 -- a move fails test (iii) on a stock first at the stop's column, whose tested point blocks the stop's leaf
-pub record IsCutStop (job : Job) (stock : Stock) (m : Move) (stop : Stop) : Type 0 where
+pub record IsCutStop (job : JobFields) (stock : Stock) (m : Move) (stop : Stop) : Type 0 where
   pub tested : IsTested job m.kind
   pub column : IsColumn job stop.row stop.col
   pub first : (a b : ℕ) → IsColumn job a b → IsBefore a b stop.row stop.col → PassesPoint job.cutter m (tested_point_on job m.kind stock a b)
@@ -33,7 +33,7 @@ pub record IsCutStop (job : Job) (stock : Stock) (m : Move) (stop : Stop) : Type
   pub blocked : Blocks job.cutter (span_of m stop.leaf.d stop.leaf.k) (point_tri (tested_point_on job m.kind stock stop.row stop.col))
 
 -- it passes test (iii), and fails test (iii h) first at the stop's column, whose top blocks the stop's leaf
-pub record IsHolderStop (job : Job) (stock : Stock) (m : Move) (stop : Stop) : Type 0 where
+pub record IsHolderStop (job : JobFields) (stock : Stock) (m : Move) (stop : Stop) : Type 0 where
   pub cut : ClearsColumnsOn job stock m
   pub holder : OneHolder
   pub mounted : job.holder ≡ Some holder
@@ -43,62 +43,62 @@ pub record IsHolderStop (job : Job) (stock : Stock) (m : Move) (stop : Stop) : T
   pub blocked : HolderIsBlocked holder m (point_tri (top_point_on job stock stop.row stop.col)) stop.leaf
 
 -- so it is by the test that the stop names
-abbrev pub StopsBy : RowTest → Job → Stock → Move → Stop → Type 0
+abbrev pub StopsBy : RowTest → JobFields → Stock → Move → Stop → Type 0
 StopsBy test.Cut job stock m stop = IsCutStop job stock m stop
 StopsBy test.Holder job stock m stop = IsHolderStop job stock m stop
 
 -- what is told of a move on a stock: where that stops it, or that it passes
-abbrev pub IsTold : Job → Stock → Move → Option Stop → Type 0
+abbrev pub IsTold : JobFields → Stock → Move → Option Stop → Type 0
 IsTold job stock m told = MatchOption told (PassesStock job stock m) (λ stop. StopsBy stop.test job stock m stop)
 
 -- so much is told of each move, on the stock that the moves before it leave
-pub record AreTold (job : Job) (moves : List Move) (stops : List (Option Stop)) : Type 0 where
+pub record AreTold (job : JobFields) (moves : List Move) (stops : List (Option Stop)) : Type 0 where
   pub count : length stops ≡ length moves
   pub each : (k : ℕ) → k < length moves → IsTold job (stock_met job (uncut job) moves k) (move_at moves k) (slice_index_or stops k None)
 
 -- ---- by rows
 
 -- row j of the uncut stock, as move k meets it after all moves before
-abbrev pub row_met : Job → List Move → ℕ → ℕ → RowState
+abbrev pub row_met : JobFields → List Move → ℕ → ℕ → RowState
 row_met job moves k j = row_before job moves (uncut_row job j) k
 
 -- a move passes the test of its kind in each row before row n, the rows being these by their numbers
-abbrev pub CutClears : Job → (ℕ → RowState) → Move → ℕ → Type 0
+abbrev pub CutClears : JobFields → (ℕ → RowState) → Move → ℕ → Type 0
 CutClears job rows m n = (j : ℕ) → j < n → CutClearsRow job (rows j) m
 
 -- and so does the job's holder
-abbrev pub HolderClears : Job → (ℕ → RowState) → Move → ℕ → Type 0
+abbrev pub HolderClears : JobFields → (ℕ → RowState) → Move → ℕ → Type 0
 HolderClears job rows m n = (j : ℕ) → j < n → HolderClearsRow job (rows j) m
 
 -- both
-pub record ClearsRows (job : Job) (rows : ℕ → RowState) (m : Move) (n : ℕ) : Type 0 where
+pub record ClearsRows (job : JobFields) (rows : ℕ → RowState) (m : Move) (n : ℕ) : Type 0 where
   pub cut : CutClears job rows m n
   pub holder : HolderClears job rows m n
 
 -- the stop's row is the first in which the cutter is stopped, at the stop's column and leaf
-pub record IsCutRow (job : Job) (rows : ℕ → RowState) (m : Move) (n : ℕ) (stop : Stop) : Type 0 where
+pub record IsCutRow (job : JobFields) (rows : ℕ → RowState) (m : Move) (n : ℕ) (stop : Stop) : Type 0 where
   pub there : stop.row < n
   pub before : CutClears job rows m stop.row
   pub stops : CutStopsAt job (rows stop.row) m stop.col stop.leaf
 
 -- the cutter passes each row, and the stop's row is the first in which the holder is stopped, at the stop's column and leaf
-pub record IsHolderRow (job : Job) (rows : ℕ → RowState) (m : Move) (n : ℕ) (stop : Stop) : Type 0 where
+pub record IsHolderRow (job : JobFields) (rows : ℕ → RowState) (m : Move) (n : ℕ) (stop : Stop) : Type 0 where
   pub there : stop.row < n
   pub cut : CutClears job rows m n
   pub before : HolderClears job rows m stop.row
   pub stops : IsFirstHolderStop job (rows stop.row) m stop.col stop.leaf
 
 -- so it is by the test that the stop names
-abbrev pub StopsRowBy : RowTest → Job → (ℕ → RowState) → Move → ℕ → Stop → Type 0
+abbrev pub StopsRowBy : RowTest → JobFields → (ℕ → RowState) → Move → ℕ → Stop → Type 0
 StopsRowBy test.Cut job rows m n stop = IsCutRow job rows m n stop
 StopsRowBy test.Holder job rows m n stop = IsHolderRow job rows m n stop
 
 -- what the rows before row n tell of a move: where they stop it, or that it passes them
-abbrev pub IsToldBy : Job → (ℕ → RowState) → Move → ℕ → Option Stop → Type 0
+abbrev pub IsToldBy : JobFields → (ℕ → RowState) → Move → ℕ → Option Stop → Type 0
 IsToldBy job rows m n told = MatchOption told (ClearsRows job rows m n) (λ stop. StopsRowBy stop.test job rows m n stop)
 
 -- so much the rows before row n tell of each move, as it meets them
-pub record AreToldBy (job : Job) (moves : List Move) (n : ℕ) (stops : List (Option Stop)) : Type 0 where
+pub record AreToldBy (job : JobFields) (moves : List Move) (n : ℕ) (stops : List (Option Stop)) : Type 0 where
   pub count : length stops ≡ length moves
   pub each : (k : ℕ) → k < length moves → IsToldBy job (row_met job moves k) (move_at moves k) n (slice_index_or stops k None)
 

@@ -3,16 +3,15 @@ use Rattle.std.specs.Prelude.{◌⊎◌, ℕ, List, Option, string_bytes}
 use Rattle.mill_command.specs.declared.refusal.Refusal.{Refusal}
 use Rattle.mill_command.specs.declared.refusal.Refusal.TheVariants as refusal
 use Rattle.mill_io.specs.Views.{SinkView}
-use Rattle.mill_load.specs.Prints.{Prints}
+use Rattle.mill_answer.specs.Prints.{Prints}
 use Rattle.mill_load.specs.declared.load.LoadFault.{LoadFault}
 use Rattle.mill_load.specs.declared.load.LoadFault.TheVariants.{Memory, ReadFault, Unfit}
 use Rattle.mill_report_run.specs.Outcomes.{Fails, IsOutcome, IsTextOf, Outcome, Shows, bad_words, failed, help, outcome_status}
 use Rattle.mill_report_run.specs.declared.load.Loaded.{Loaded}
-use Rattle.mill_report_text.specs.Reports.{IsReportText}
-use Rattle.mill_report_text.specs.Sources.{texts_of_sources}
-use Rattle.mill_run.specs.Calls.{Call, HoldsReads}
-use Rattle.mill_run.specs.Verify.{texts_of}
-use Rattle.mill_run.specs.Words.{Files}
+use Rattle.mill_report_run.specs.Reports.{IsReportText}
+use Rattle.mill_report_run.specs.inner.Sources.{texts_of_sources}
+use Rattle.mill_answer.specs.Calls.{Call, HoldsReads}
+use Rattle.mill_answer.specs.Verify.{Files, texts_of}
 
 -- a text of this outcome is printed, with its status
 pub record PrintsOutcome (outcome : Outcome) (status : ℕ) (sink sink_after : SinkView) : Type 0 where
@@ -40,7 +39,7 @@ PrintsFault (Unfit fault) status sink sink_after = PrintsOutcome (failed (Unfit 
 pub record TellsReport (l : Loaded) (status : ℕ) (sink sink_after : SinkView) : Type 0 where
   pub report : List ℕ
   pub code : ℕ
-  pub is : IsReportText (texts_of_sources l.sources) l.setup.job l.setup.part l.moves.items report code
+  pub is : IsReportText (texts_of_sources l.sources) l.setup.job.fields l.setup.part l.moves.items report code
   pub printed : Prints report code status sink sink_after
 
 -- so it is, or it is printed that memory was short

@@ -3,10 +3,9 @@ use Rattle.std.specs.Prelude.{◌≤◌, ◌<◌, ℕ, List, [], length, take, A
 use Rattle.std.specs.Global.{Vec}
 use Rattle.mill_base.specs.declared.limits.TheConstants.{MAX_WORKERS}
 use Rattle.mill_base.specs.Covers.{IsUnder}
-use Rattle.mill_job.specs.declared.job.Job.{Job}
-use Rattle.mill_job.specs.Jobs.{IsJob}
-use Rattle.mill_list.specs.declared.limits.TheConstants.{MAX_STEPS}
-use Rattle.mill_list.specs.declared.step.Step.{Step}
+use Rattle.mill_job.specs.declared.fields.JobFields.{JobFields}
+use Rattle.mill_job.specs.declared.step_limits.TheConstants.{MAX_STEPS}
+use Rattle.mill_job.specs.declared.step.Step.{Step}
 use Rattle.mill_verify.specs.Files.{File as CutFile, IsFileOf}
 use Rattle.mill_io.specs.Readings.{LastFails, Reading}
 use Rattle.mill_load.specs.declared.file.File.{File}
@@ -20,14 +19,14 @@ use Rattle.mill_run.specs.declared.stock.Cutting.{Cutting}
 use Rattle.mill_run.specs.Rest.{RestTexts, rest_texts, FailsAtStep, ReadsRest, ReadsSteps, step_at, IsListText, IsRefusedList, IsUnfitRest, IsReadBeforeRest}
 use Rattle.mill_load.specs.Setup.{IsTooLongJob}
 use Rattle.mill_run.specs.Stock.{StockTexts, ReadsStock, IsUnfitStock, IsReadBeforeStock}
-use Rattle.mill_run.specs.Verify.{Texts, Reads, IsUnfitProgram, IsReadBeforeProgram}
+use Rattle.mill_answer.specs.Verify.{Texts, Reads, IsUnfitProgram, IsReadBeforeProgram}
 use Rattle.mill_load.specs.Loads.{AreMoves, LoadsProgram, NamesFault}
 use Rattle.mill_run.specs.Words.{RestFiles}
 
 -- ---- a list and its programs
 
 -- the steps of a list's file, or why there are none
-abbrev pub LoadsList : Job → Option (List ℕ) → Result (Vec Step) LoadFault → Type 0
+abbrev pub LoadsList : JobFields → Option (List ℕ) → Result (Vec Step) LoadFault → Type 0
 LoadsList job told (Ok steps) = IfSome told (λ text. IsListText job text steps.items)
 LoadsList job told (Err Memory) = Unit {0}
 LoadsList job told (Err (ReadFault ListFile)) = Unit {0}
@@ -36,7 +35,7 @@ LoadsList job told (Err (Unfit (ListRefused fault))) = IfSome told (λ text. IsR
 LoadsList job told (Err _) = ⊥
 
 -- why the program of a step has no moves, where all steps before it are read; a read fault is that of its file
-pub record StopsAtStep (programs : List ℕ → Option (List ℕ)) (job : Job) (steps : List Step) (log : List Reading) (fault : LoadFault) : Type 0 where
+pub record StopsAtStep (programs : List ℕ → Option (List ℕ)) (job : JobFields) (steps : List Step) (log : List Reading) (fault : LoadFault) : Type 0 where
   pub number : ℕ
   pub files : List CutFile
   pub there : number < length steps
@@ -62,21 +61,21 @@ FailsInRest contents names log (Unfit fault) = Unit {0}
 
 -- job, part and moves, or why there are none
 abbrev pub Loads : Texts → Result Loaded LoadFault → Type 0
-Loads texts (Ok l) = Reads texts l.job l.part l.moves.items
+Loads texts (Ok l) = Reads texts l.job.fields l.part l.moves.items
 Loads texts (Err Memory) = Unit {0}
 Loads texts (Err (ReadFault file)) = IsReadBeforeProgram texts file
 Loads texts (Err (Unfit fault)) = IsUnfitProgram texts fault
 
 -- job and moves, or why there are none
 abbrev pub LoadsCutting : StockTexts → Result Cutting LoadFault → Type 0
-LoadsCutting texts (Ok c) = ReadsStock texts c.job c.moves.items
+LoadsCutting texts (Ok c) = ReadsStock texts c.job.fields c.moves.items
 LoadsCutting texts (Err Memory) = Unit {0}
 LoadsCutting texts (Err (ReadFault file)) = IsReadBeforeStock texts file
 LoadsCutting texts (Err (Unfit fault)) = IsUnfitStock texts fault
 
 -- job, part, steps and files, or why there are none
 abbrev pub LoadsFiles : RestTexts → Result Listed LoadFault → Type 0
-LoadsFiles texts (Ok l) = ReadsRest texts l.job l.part l.steps.items l.files.items
+LoadsFiles texts (Ok l) = ReadsRest texts l.job.fields l.part l.steps.items l.files.items
 LoadsFiles texts (Err Memory) = Unit {0}
 LoadsFiles texts (Err (ReadFault file)) = IsReadBeforeRest texts file
 LoadsFiles texts (Err (Unfit fault)) = IsUnfitRest texts fault
@@ -85,20 +84,17 @@ LoadsFiles texts (Err (Unfit fault)) = IsUnfitRest texts fault
 
 -- all that the verifier asks for
 pub record IsReady (l : Loaded) : Type 0 where
-  pub job_ok : IsJob l.job
-  pub under : IsUnder l.part l.job.top
-  pub moves_ok : AreMoves l.job l.moves.items
+  pub under : IsUnder l.part l.job.fields.top
+  pub moves_ok : AreMoves l.job.fields l.moves.items
 
--- a job, and moves within the ranges that cutting asks for
-pub record IsCutting (c : Cutting) : Type 0 where
-  pub job_ok : IsJob c.job
-  pub moves_ok : AreMoves c.job c.moves.items
+-- moves within the ranges that cutting asks for
+abbrev pub IsCutting : Cutting → Type 0
+IsCutting c = AreMoves c.job.fields c.moves.items
 
 -- all that the verifier asks for of files in turn
 pub record AreFilesReady (l : Listed) : Type 0 where
-  pub job_ok : IsJob l.job
-  pub under : IsUnder l.part l.job.top
-  pub files_ok : All (IsFileOf l.job) l.files.items
+  pub under : IsUnder l.part l.job.fields.top
+  pub files_ok : All (IsFileOf l.job.fields) l.files.items
   pub few : length l.files.items ≤ MAX_STEPS
 
 -- a number of workers that a command may have

@@ -15,21 +15,21 @@ use Rattle.mill_verify.specs.declared.list.ListVerdict.{ListVerdict}
 use Rattle.mill_load.specs.declared.load.LoadFault.{LoadFault}
 use Rattle.mill_load.specs.declared.load.LoadFault.TheVariants as load_fault
 use Rattle.mill_load.specs.declared.load.Setup.{Setup}
-use Rattle.mill_job.specs.declared.job.Place.{Place}
+use Rattle.mill_job.specs.declared.fields.Place.{Place}
 use Rattle.mill_job.specs.Jobs.{tool_of}
 use Rattle.mill_run.specs.declared.verify.Loaded.{Loaded}
 use Rattle.mill_run.specs.declared.rest.Listed.{Listed}
 use Rattle.mill_run.specs.declared.stock.Cutting.{Cutting}
-use Rattle.mill_load.specs.Prints.{Prints}
+use Rattle.mill_answer.specs.Prints.{Prints}
 use Rattle.mill_run.specs.Answers.{unfit, judged, judged_files, dropped, leveled, planned, stocked, sampled}
-use Rattle.mill_run.specs.Calls.{Call}
+use Rattle.mill_answer.specs.Calls.{Call}
 use Rattle.mill_run.specs.Level.{LevelAnswer, IsLevelAnswer}
 use Rattle.mill_run.specs.Outcomes.{Outcome, help, bad_words, no_memory, read_fault, answered, outcome_status, outcome_line, Shows}
 use Rattle.mill_run.specs.Plan.{plan_line, plan_status}
 use Rattle.mill_run.specs.Rest.{AreSafe, IsFileNamed}
 use Rattle.mill_run.specs.Sample.{Samples}
 use Rattle.mill_run.specs.Stock.{StockAnswer, IsStockAnswer}
-use Rattle.mill_run.specs.Verify.{IsNamed, IsSafe}
+use Rattle.mill_answer.specs.Verify.{IsNamed, IsSafe}
 
 -- the line and the status of this outcome
 abbrev pub PrintsOutcome : Outcome → ℕ → SinkView → SinkView → Type 0
@@ -68,10 +68,10 @@ PrintsPlanFault unit plan_fault.WantOfMemory status sink sink_after = PrintsOutc
 -- the verdict on what was read is printed, or that memory was short
 pub record PrintsVerdict (l : Loaded) (status : ℕ) (sink sink_after : SinkView) : Type 0 where
   pub verdict : Verdict
-  pub is : IsVerdict l.job l.part l.moves.items verdict
-  pub safe : IsSafe l.job l.part l.moves.items verdict
-  pub named : IsNamed l.job l.part l.moves.items verdict
-  pub printed : PrintsOr (answered (judged l.job l.part l.moves.items verdict)) status sink sink_after
+  pub is : IsVerdict l.job.fields l.part l.moves.items verdict
+  pub safe : IsSafe l.job.fields l.part l.moves.items verdict
+  pub named : IsNamed l.job.fields l.part l.moves.items verdict
+  pub printed : PrintsOr (answered (judged l.job.fields l.part l.moves.items verdict)) status sink sink_after
 
 abbrev pub TriesVerdict : Loaded → ℕ → SinkView → SinkView → Type 0
 TriesVerdict l status sink sink_after = PrintsVerdict l status sink sink_after ⊎ PrintsOutcome no_memory status sink sink_after
@@ -79,10 +79,10 @@ TriesVerdict l status sink sink_after = PrintsVerdict l status sink sink_after �
 -- the verdict on the files that were read is printed, or that memory was short
 pub record PrintsListVerdict (l : Listed) (status : ℕ) (sink sink_after : SinkView) : Type 0 where
   pub verdict : ListVerdict
-  pub is : IsListVerdict l.job l.part l.files.items verdict
-  pub safe : AreSafe l.job l.part l.files.items verdict
-  pub named : IsFileNamed l.job l.part l.files.items verdict
-  pub printed : PrintsOr (answered (judged_files l.job l.part l.steps.items l.files.items verdict)) status sink sink_after
+  pub is : IsListVerdict l.job.fields l.part l.files.items verdict
+  pub safe : AreSafe l.job.fields l.part l.files.items verdict
+  pub named : IsFileNamed l.job.fields l.part l.files.items verdict
+  pub printed : PrintsOr (answered (judged_files l.job.fields l.part l.steps.items l.files.items verdict)) status sink sink_after
 
 abbrev pub TriesListVerdict : Listed → ℕ → SinkView → SinkView → Type 0
 TriesListVerdict l status sink sink_after = PrintsListVerdict l status sink sink_after ⊎ PrintsOutcome no_memory status sink sink_after
@@ -90,14 +90,14 @@ TriesListVerdict l status sink sink_after = PrintsListVerdict l status sink sink
 -- the drop height at a place is printed, or that memory was short
 pub record PrintsHeight (s : Setup) (place : Place) (status : ℕ) (sink sink_after : SinkView) : Type 0 where
   pub height : ℤ
-  pub is : IsDropHeight (tool_of s.job) s.part place.x place.y s.job.floor height
-  pub printed : PrintsOr (answered (dropped s.job.unit height)) status sink sink_after
+  pub is : IsDropHeight (tool_of s.job.fields) s.part place.x place.y s.job.fields.floor height
+  pub printed : PrintsOr (answered (dropped s.job.fields.unit height)) status sink sink_after
 
 -- the answer at a height is printed, or that memory was short
 pub record PrintsLevel (s : Setup) (height : ℤ) (status : ℕ) (sink sink_after : SinkView) : Type 0 where
   pub answer : LevelAnswer
-  pub is : IsLevelAnswer s.job s.part height answer
-  pub printed : PrintsOr (answered (leveled s.job.unit answer)) status sink sink_after
+  pub is : IsLevelAnswer s.job.fields s.part height answer
+  pub printed : PrintsOr (answered (leveled s.job.fields.unit answer)) status sink sink_after
 
 abbrev pub TriesLevel : Setup → ℤ → ℕ → SinkView → SinkView → Type 0
 TriesLevel s height status sink sink_after = PrintsLevel s height status sink sink_after ⊎ PrintsOutcome no_memory status sink sink_after
@@ -105,8 +105,8 @@ TriesLevel s height status sink sink_after = PrintsLevel s height status sink si
 -- the planner's answer to what was read is shown and its text stored
 pub record ShowsPlan (s : Setup) (name : List ℕ) (call : Call) : Type 0 where
   pub answer : PlanAnswer
-  pub is : IsPlanAnswer s.job s.part answer
-  pub shows : Shows call (answered (planned s.job s.part name answer))
+  pub is : IsPlanAnswer s.job.fields s.part answer
+  pub shows : Shows call (answered (planned s.job.fields s.part name answer))
 
 -- so it is, or it is shown that memory was short
 abbrev pub ShowsPlanOr : Setup → List ℕ → Call → Type 0
@@ -115,8 +115,8 @@ ShowsPlanOr s name call = ShowsPlan s name call ⊎ Shows call no_memory
 -- the surface of the stock that was cut is shown and its text stored, or it is shown that it is too large
 pub record ShowsStock (c : Cutting) (name : List ℕ) (call : Call) : Type 0 where
   pub answer : StockAnswer
-  pub is : IsStockAnswer c.job c.moves.items answer
-  pub shows : Shows call (answered (stocked c.job c.moves.items name answer))
+  pub is : IsStockAnswer c.job.fields c.moves.items answer
+  pub shows : Shows call (answered (stocked c.job.fields c.moves.items name answer))
 
 -- so it is, or it is shown that memory was short
 abbrev pub ShowsStockOr : Cutting → List ℕ → Call → Type 0

@@ -2,7 +2,8 @@
 //
 // A row has a command and what the outside allows, as in SOUND; the status and what is printed; and
 // what OUT holds then. A name is the text of that file.
-use crate::tests::{answer, same, text_of, told_and_left, with_lines};
+use crate::tests::{answer, same, text_of, told_and_left};
+use mill_tables::with_lines;
 use std::alloc::Global;
 use std::process::Abort;
 use std::test::Fail;

@@ -1,5 +1,6 @@
 // What is said of a file where a later one is missing: there is no file `absent`.
-use crate::tests::{SOUND, call, each_says, same, words};
+use crate::tests::{SOUND, call, each_says, same};
+use mill_tables::owned_words;
 use std::alloc::Global;
 use std::process::Abort;
 use std::test::Fail;
@@ -35,7 +36,7 @@ fn look_at_long<R: Threads + Sync + Abort>(
     command: &str,
     says: &str,
 ) -> Result<(), Fail> {
-    let ended = call(rt, alloc, &words(alloc, command)?, long, SOUND)?;
+    let ended = call(rt, alloc, &owned_words(alloc, command)?, long, SOUND)?;
     same(rt, &ended.told, says, command);
     Ok(())
 }

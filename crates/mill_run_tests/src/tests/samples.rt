@@ -1,12 +1,12 @@
 // `sample`: its line, whatever the workers. No file is read.
 ghost use Rattle.std.specs.Prelude.{IfOk};
-ghost use Rattle.mill_sample.specs.Sample.{IsSample};
+ghost use Rattle.mill_run.specs.SamplePart.{IsSample};
 
 use crate::tests::failures::each_tells;
 use crate::tests::same;
 use mill_base::Tri;
 use mill_load::Setup;
-use mill_sample::sample_setup;
+use mill_run::sample_setup;
 use std::alloc::Global;
 use std::process::Abort;
 use std::test::Fail;
@@ -22,7 +22,7 @@ fn verifies_a_sample(rt: HostRuntime) -> Result<(), Fail> {
 }
 
 fn sample_of(alloc: Global, size: u32) -> Result<Setup, Fail>
-    ensures { IfOk result (IsSample size) }
+    ensures { IfOk result (λ setup. IsSample size setup.job.fields setup.part) }
 {
     if size == 0 || size > 100 {
         return Err("no such size".into());

@@ -1,6 +1,7 @@
 // Words that aren't taken as a command. Clap's text isn't part of any promise: a row has only a piece
 // of it.
-use crate::tests::{answer, same, with_lines};
+use crate::tests::{answer, same};
+use mill_tables::with_lines;
 use std::alloc::Global;
 use std::process::Abort;
 use std::test::Fail;

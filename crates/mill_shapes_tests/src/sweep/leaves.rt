@@ -1,9 +1,10 @@
 //! How often moves are halved, and where their leaves lie.
 ghost use Rattle.std.specs.Prelude.{◌≤◌, ◌<◌, ◌^◌};
 
-use crate::tables::{feed, first_word, halves, leaf};
+use crate::tables::leaf;
 use mill_base::{Kind, Move, Pt3, power_of_two};
 use mill_sweep::{Span, depth, span};
+use mill_tables::{feed, first_word, halves};
 use std::process::Abort;
 use std::test::Fail;
 

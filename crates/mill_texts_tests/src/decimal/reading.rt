@@ -1,7 +1,8 @@
 // Numbers that are read. A row has a text, and behind `=>` what it's read as.
-use crate::tables::{halves, same};
+use crate::tables::same;
 use mill_base::Unit;
 use mill_decimal::{Snap, read_decimal, was_rounded};
+use mill_tables::halves;
 use std::alloc::Global;
 use std::process::Abort;
 use std::test::Fail;

@@ -6,9 +6,8 @@ use Rattle.mill_base.specs.declared.motion.Move.{Move}
 use Rattle.mill_base.specs.Ranges.{MovesInRange}
 use Rattle.mill_board.specs.Works.{IsClosed, Means}
 use Rattle.mill_board.specs.declared.work.Held.{Held}
-use Rattle.mill_cells.specs.Sorted.{Sorted, sorted_of}
-use Rattle.mill_job.specs.declared.job.Job.{Job}
-use Rattle.mill_job.specs.Jobs.{IsJob, tool_of}
+use Rattle.mill_job.specs.declared.fields.JobFields.{JobFields}
+use Rattle.mill_job.specs.Jobs.{tool_of}
 use Rattle.mill_job.specs.Columns.{row_count}
 use Rattle.mill_dexel.specs.Rows.{RowState, fresh_row}
 use Rattle.mill_dexel.specs.Stocks.{IsStockOf}
@@ -23,17 +22,15 @@ use Rattle.mill_verify.specs.declared.piece.Piece.TheVariants.{Block, Stock}
 
 -- what the tests are made of: the job, the part, the rows of the stock before the first move, if it is cut, the moves, and how many of these have turns
 pub record TestsShown : Type 0 where
-  pub job : Job
+  pub job : JobFields
   pub part : List Tri
   pub start : Option (List RowState)
   pub moves : List Move
   pub turns : ℕ
 
--- the cells are the part's, the stock is the job's, the moves are in range, and no more of them have turns than there are
-pub record AreReady (job : Job) (part : List Tri) (cells : Sorted) (start : OneStock) (moves : List Move) (turns : ℕ) : Type 0 where
-  pub job_ok : IsJob job
+-- the stock is the job's, the moves are in range, and no more of them have turns than there are
+pub record AreReady (job : JobFields) (start : OneStock) (moves : List Move) (turns : ℕ) : Type 0 where
   pub start_ok : IsStockOf job start
-  pub cells_ok : cells ≡ sorted_of part
   pub moves_ok : MovesInRange moves
   pub few : length moves ≤ MAX_MOVES
   pub within : turns ≤ length moves
@@ -81,7 +78,7 @@ abbrev pub tests : Means TestsShown Piece
 tests = record { pieces = piece_count; first = first_turn; limit = turn_limit; start = fresh_piece; IsAt = IsPieceAt; Passes = PassesTest; IsFailed = IsPieceFailed }
 
 -- what the tests come to
-abbrev pub AreTested : Job → List Tri → Option (List RowState) → List Move → ℕ → ℕ → List (Held Piece) → Type 0
+abbrev pub AreTested : JobFields → List Tri → Option (List RowState) → List Move → ℕ → ℕ → List (Held Piece) → Type 0
 AreTested job part start moves turns least pieces = IsClosed tests (record { work = record { job = job; part = part; start = start; moves = moves; turns = turns }; turns = turns }) least pieces
 
 -- the row of the stock that a piece is, if it is one

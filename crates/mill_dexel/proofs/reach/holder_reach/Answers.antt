@@ -7,5 +7,5 @@ use Rattle.mill_dexel.proofs.reach.holder_reach.Goals as goal
 
 pub returns : goal.returns
 returns c =
-    reach_same c.args.job.now _ _ _ (c.args.holder.now.radius +ℤ pos MAX_LAST_REACH) c.args.from.x c.args.to.x c.reach_by.result.first c.reach_by.result.«end»
+    reach_same c.args.job.now.fields _ _ _ (c.args.holder.now.radius +ℤ pos MAX_LAST_REACH) c.args.from.x c.args.to.x c.reach_by.result.first c.reach_by.result.«end»
     (omega (arith, ints)) (omega (arith, ints)) (omega (arith, ints)) c.reach_by.ensures

@@ -8,5 +8,5 @@ use Rattle.mill_dexel.proofs.reach.is_apart.Goals as goal
 
 pub returns : goal.returns
 returns c = λ yes.
-    beyond_same _ _ _ _ (radius_of c.args.job.now.cutter +ℤ pos MAX_LAST_REACH) c.args.from c.args.to c.args.y
+    beyond_same _ _ _ _ (radius_of c.args.job.now.fields.cutter +ℤ pos MAX_LAST_REACH) c.args.from c.args.to c.args.y
     (omega (arith, ints)) (omega (arith, ints)) (omega (arith, ints)) (omega (arith, ints)) (c.is_beyond.ensures.yes yes)

@@ -5,10 +5,10 @@ use Rattle.mill_dexel.proofs.reach.is_away.Goals as goal
 
 pub returns-in-None : goal.returns-in-None
 returns-in-None c = λ yes.
-    away_same c.args.job.now _ _ _ c.args.from c.args.to c.args.y (omega (arith, ints)) (omega (arith, ints)) (omega (arith, ints))
-    (away_bare c.args.job.now _ _ _ c.in-None.is (c.is_apart.ensures yes))
+    away_same c.args.job.now.fields _ _ _ c.args.from c.args.to c.args.y (omega (arith, ints)) (omega (arith, ints)) (omega (arith, ints))
+    (away_bare c.args.job.now.fields _ _ _ c.in-None.is (c.is_apart.ensures yes))
 
 pub returns-in-Some : goal.returns-in-Some
 returns-in-Some c = λ yes.
-    away_same c.args.job.now _ _ _ c.args.from c.args.to c.args.y (omega (arith, ints)) (omega (arith, ints)) (omega (arith, ints))
-    (away_held c.args.job.now _ _ _ c.in-Some.holder c.requires c.in-Some.is (c.is_holder_apart.ensures yes))
+    away_same c.args.job.now.fields _ _ _ c.args.from c.args.to c.args.y (omega (arith, ints)) (omega (arith, ints)) (omega (arith, ints))
+    (away_held c.args.job.now.fields _ _ _ c.in-Some.holder c.args.job.now.is_job c.in-Some.is (c.is_holder_apart.ensures yes))

@@ -8,5 +8,5 @@ use Rattle.mill_dexel.proofs.reach.reach_of.Goals as goal
 
 pub returns : goal.returns
 returns c =
-    reach_same c.args.job.now _ _ _ (radius_of c.args.job.now.cutter +ℤ pos MAX_LAST_REACH) c.args.from.x c.args.to.x c.reach_by.result.first c.reach_by.result.«end»
+    reach_same c.args.job.now.fields _ _ _ (radius_of c.args.job.now.fields.cutter +ℤ pos MAX_LAST_REACH) c.args.from.x c.args.to.x c.reach_by.result.first c.reach_by.result.«end»
     (omega (arith, ints)) (omega (arith, ints)) (omega (arith, ints)) c.reach_by.ensures

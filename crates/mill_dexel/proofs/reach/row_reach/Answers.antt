@@ -9,5 +9,5 @@ use Rattle.mill_dexel.proofs.reach.row_reach.Goals as goal
 
 pub returns : goal.returns
 returns c =
-    along_same _ _ _ _ _ _ c.args.job.now.area.y0 c.args.job.now.pitch (row_count c.args.job.now) (radius_of c.args.job.now.cutter +ℤ pos MAX_LAST_REACH) c.args.from.y c.args.to.y c.reach_along.result.first c.reach_along.result.«end»
+    along_same _ _ _ _ _ _ c.args.job.now.fields.area.y0 c.args.job.now.fields.pitch (row_count c.args.job.now.fields) (radius_of c.args.job.now.fields.cutter +ℤ pos MAX_LAST_REACH) c.args.from.y c.args.to.y c.reach_along.result.first c.reach_along.result.«end»
     (omega (arith, ints)) (omega (arith, ints)) c.rows.ensures.value (omega (arith, ints)) (omega (arith, ints)) (omega (arith, ints)) c.reach_along.ensures

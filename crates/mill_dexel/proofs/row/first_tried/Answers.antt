@@ -12,7 +12,7 @@ use Rattle.mill_dexel.proofs.row.first_tried.Goals as goal
 pub first_block_point-requires : goal.first_block_point-requires
 first_block_point-requires c =
     subst (λ (p : Pt3). IsInRange p) (sym c.tested_point-point.ensures)
-    (tested_in_range c.args.job.now c.args.kind c.args.row.now c.loop-column.column c.requires.job c.requires.row (omega (arith, c.requires.within)))
+    (tested_in_range c.args.job.now.fields c.args.kind c.args.row.now c.loop-column.column c.args.job.now.is_job c.requires.row (omega (arith, c.requires.within)))
 
 pub loop-column-init : goal.loop-column-init
 loop-column-init c = c.requires.beside.before
@@ -34,4 +34,4 @@ loop-column-preserved c =
 
 pub returns-clause-first : goal.returns-clause-first
 returns-clause-first c =
-    passes_all c.args.job.now (trying c.args.sweep.now c.args.kind) c.args.row.now c.args.first c.args.«end» c.loop-column.column c.requires.beside (omega arith) c.loop-column.invariant
+    passes_all c.args.job.now.fields (trying c.args.sweep.now c.args.kind) c.args.row.now c.args.first c.args.«end» c.loop-column.column c.requires.beside (omega arith) c.loop-column.invariant

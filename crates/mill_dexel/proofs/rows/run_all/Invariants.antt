@@ -6,7 +6,7 @@ use Rattle.mill_dexel.specs.Turns.{IsTurnedUpTo}
 use Rattle.mill_dexel.proofs.rows.run_all.Given as goal
 
 abbrev pub invariant-loop-first : goal.invariant-loop-first
-invariant-loop-first l = AllZip (IsTurnedUpTo l.job l.moves l.first) l.fn.rows l.rows × All (IsRowOf l.job) l.rows
+invariant-loop-first l = AllZip (IsTurnedUpTo l.job.fields l.moves l.first) l.fn.rows l.rows × All (IsRowOf l.job.fields) l.rows
 
 abbrev pub decreases-loop-first : goal.decreases-loop-first
 decreases-loop-first l = length l.moves - l.first

@@ -18,9 +18,8 @@ collect-requires-clause-ready g c κs =
     let n : ℕ = c.nodes-nodes.result in
     let ends = c.into_par_iter.ensures in
     let all : n ≡ length (nodes_of c.args.lattice.now) = c.nodes-nodes.ensures ∙ sym (length-rows (lattice_xs c.args.lattice.now) (lattice_ys c.args.lattice.now)) in
-    let inside = nat_range-All (λ i. IsNodeTask c.args.part.now c.args.cells.now c.args.tool.now c.args.lattice.now c.args.floor i) 0 n (λ i low high.
+    let inside = nat_range-All (λ i. IsNodeTask c.args.part.now c.args.tool.now c.args.lattice.now c.args.floor i) 0 n (λ i low high.
     record {
-      cells_ok = c.requires.cells_ok;
       tool_ok = c.requires.tool_ok;
       lattice_ok = c.requires.lattice_ok;
       floor_ok = c.requires.floor_ok;

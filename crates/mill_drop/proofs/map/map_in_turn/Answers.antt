@@ -15,7 +15,6 @@ height_at-requires c =
     let lattice = c.args.lattice.now in
     let count = c.nodes-nodes.ensures ∙ sym (length-rows (lattice_xs lattice) (lattice_ys lattice)) in
     rw (coordinate c.args.floor c.requires.floor_ok) (record {
-      cells_ok = c.requires.cells_ok;
       tool_ok = c.requires.tool_ok;
       lattice_ok = c.requires.lattice_ok;
       floor_ok = c.requires.floor_ok;

@@ -9,8 +9,8 @@ use Rattle.mill_drop.proofs.near.raised_near.Goals as goal
 pub loop-number-init : goal.loop-number-init
 loop-number-init c =
     let from = coordinate c.args.from c.requires.from_ok in
-    rw (from, c.tris-tris.ensures.list) (raise_starts c.args.spindle.cutter c.args.part.now no_tri c.args.area c.args.spindle.x c.args.spindle.y c.args.from c.args.cells.now c.near_rising-near.result
-    c.requires.from_ok c.requires.cells_ok c.near_rising-near.ensures.tops c.near_rising-near.ensures.each)
+    rw (from, c.tris-tris.ensures.list, c.part.ensures) (raise_starts c.args.spindle.cutter c.args.part.now no_tri c.args.area c.args.spindle.x c.args.spindle.y c.args.from c.cells.result.now c.near_rising-near.result
+    c.requires.from_ok c.cells.ensures c.near_rising-near.ensures.tops c.near_rising-near.ensures.each)
 
 pub loop-number-smaller : goal.loop-number-smaller
 loop-number-smaller c = c.in-Some.ensures.shorter
@@ -33,10 +33,10 @@ loop-number-preserved c =
 pub returns-clause-raised : goal.returns-clause-raised
 returns-clause-raised c =
     let from = coordinate c.args.from c.requires.from_ok in
-    let before = rw (from, c.tris-tris.ensures.list) at c.loop-number.invariant in
+    let before = rw (from, c.tris-tris.ensures.list, c.part.ensures) at c.loop-number.invariant in
     before.raised
 
 pub returns-clause-free : goal.returns-clause-free
 returns-clause-free c =
-    let before = rw c.tris-tris.ensures.list at c.loop-number.invariant in
+    let before = rw (c.tris-tris.ensures.list, c.part.ensures) at c.loop-number.invariant in
     raise_ends c.args.spindle.cutter c.args.part.now no_tri c.args.area c.args.spindle.x c.args.spindle.y _ c.loop-number.near c.next_over.new.self _ c.requires.spindle_ok.cutter_ok c.in_default.ensures before

@@ -5,11 +5,11 @@ use Rattle.mill_gouge.proofs.gouge.first_gouge.Goals as goal
 
 pub returns-then-low-lid : goal.returns-then-low-lid
 returns-then-low-lid c =
-    over_clears c.args.cutter c.args.step.now c.args.part.now c.lid.result c.lid.ensures
+    over_clears c.args.cutter c.args.step.now c.args.part.now c.lid.result (rw c.part.ensures at c.lid.ensures)
     (is_over c.lid.result c.reach_box-low.result.1 _ _ _ (to_z-of_z w32 c.lid.result (search rules)) (to_z-of_z w32 c.reach_box-low.result.1 (search rules)) c.reach_box-low.ensures.low c.if-low-lid.true)
 
-pub first_of-requires-clause-outside : goal.first_of-requires-clause-outside
-first_of-requires-clause-outside c =
+pub first_of-requires : goal.first_of-requires
+first_of-requires c =
     outside_move _ c.args.cutter c.args.step.now c.reach_box-low.result.0 (to_z w32 (of_z w32 c.reach_box-low.result.1)) c.new.ensures c.reach_box-low.ensures.area
     (to_z-of_z w32 c.reach_box-low.result.1 (search rules) ∙ c.reach_box-low.ensures.low) c.requires.cutter_ok c.requires.move_ok
 

@@ -1,12 +1,13 @@
-use Rattle.std.proofs.Common.{◌≡◌}
-use Rattle.toml.specs.View.{table_view}
-use Rattle.mill_job.specs.Documents.{unit_of}
-use Rattle.mill_job.proofs.Meaning.{by_values}
+use Rattle.std.proofs.lemmas.Result.{err_from_is_err_and}
+use Rattle.mill_job.specs.Answered.{fields_of}
 use Rattle.mill_job.proofs.reading.read_job.Goals as goal
 
--- A unit with which nothing is wrong is the document's, and the keys behind it decide.
-pub returns-clause-gives : goal.returns-clause-gives
-returns-clause-gives c =
-    let ms = table_view c.in_ok-table.table in
-    let unit : c.in_ok-unit-in-None.field-0 ≡ unit_of ms = c.in_ok-unit-in-None.ensures.ok.1 in
-    by_values c.args.text.now ms c.job_in.result c.in_ok-table.ensures.ok.0 c.in_ok-table.ensures.ok.1 c.in-None.ensures (rw (c.in_ok-unit-in-None.ensures.ok.0, ← unit) c.job_in.ensures.value)
+pub returns-in_err-fields : goal.returns-in_err-fields
+unfolding fields_of
+returns-in_err-fields c =
+    let answer = err_from_is_err_and c.from_residual.result c.from_residual.ensures.1 in
+    rw (answer.1, answer.2) c.in_err-fields.ensures.gives
+
+pub returns : goal.returns
+unfolding fields_of
+returns c = c.in_ok-fields.ensures.gives

@@ -8,17 +8,17 @@ use Rattle.mill_links.proofs.links.add_link.Goals as goal
 
 pub returns-then-eq-clause-ok : goal.returns-then-eq-clause-ok
 returns-then-eq-clause-ok c =
-    sym (append-nil c.args.out.now.items) ∙ ap (λ ms. c.args.out.now.items ++ ms) (sym (no_moves c.args.job.now c.args.from c.args.to c.args.straight (sym c.eq.ensures ∙ c.if-eq.true)))
+    sym (append-nil c.args.out.now.items) ∙ ap (λ ms. c.args.out.now.items ++ ms) (sym (no_moves c.args.job.now.fields c.args.from c.args.to c.args.straight (sym c.eq.ensures ∙ c.if-eq.true)))
 
 pub returns-then-straight-clause-ok : goal.returns-then-straight-clause-ok
 returns-then-straight-clause-ok c =
     ok_gives c.add.result (λ added. added ∙ ap (λ m. c.args.out.now.items ++ m ∷ []) c.feed_to.ensures
-    ∙ ap (λ ms. c.args.out.now.items ++ ms) (sym (one_feed c.args.job.now c.args.from c.args.to c.args.straight (sym c.eq.ensures ∙ c.if-eq.false) c.if-straight.true))) c.add.ensures.ok
+    ∙ ap (λ ms. c.args.out.now.items ++ ms) (sym (one_feed c.args.job.now.fields c.args.from c.args.to c.args.straight (sym c.eq.ensures ∙ c.if-eq.false) c.if-straight.true))) c.add.ensures.ok
 
 pub returns-clause-ok : goal.returns-clause-ok
 returns-clause-ok c =
-    ok_gives c.all_or_none.result (λ added. added ∙ ap (λ ms. c.args.out.now.items ++ ms) (sym (round_moves c.args.job.now c.args.from c.args.to c.args.straight (sym c.eq.ensures ∙ c.if-eq.false) c.if-straight.false)))
-    (all_stands c.go_round-added.result c.all_or_none.result c.args.out.now.items _ _ (detour c.args.job.now c.args.from c.args.to.at) c.all_or_none.ensures.same c.go_round-added.ensures.ok c.all_or_none.ensures.ok)
+    ok_gives c.all_or_none.result (λ added. added ∙ ap (λ ms. c.args.out.now.items ++ ms) (sym (round_moves c.args.job.now.fields c.args.from c.args.to c.args.straight (sym c.eq.ensures ∙ c.if-eq.false) c.if-straight.false)))
+    (all_stands c.go_round-added.result c.all_or_none.result c.args.out.now.items _ _ (detour c.args.job.now.fields c.args.from c.args.to.at) c.all_or_none.ensures.same c.go_round-added.ensures.ok c.all_or_none.ensures.ok)
 
 pub returns-clause-err : goal.returns-clause-err
 returns-clause-err c =

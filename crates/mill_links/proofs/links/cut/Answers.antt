@@ -8,11 +8,11 @@ use Rattle.mill_links.proofs.Kept.{no_limit, untested}
 use Rattle.mill_links.proofs.links.cut.Goals as goal
 
 pub returns-then-job-eq0-clause-stock : goal.returns-then-job-eq0-clause-stock
-returns-then-job-eq0-clause-stock c = λ done follow tested. absurd (untested c.args.job.now (no_limit c.args.job.now c.requires.job_ok c.if-job-eq0.true) tested)
+returns-then-job-eq0-clause-stock c = λ done follow tested. absurd (untested c.args.job.now.fields (no_limit c.args.job.now.fields c.args.job.now.is_job c.if-job-eq0.true) tested)
 
 pub loop-step-init : goal.loop-step-init
 loop-step-init c = record {
-  stock = λ done is. subst (λ (ms : List Move). IsStock c.args.job.now ms c.args.rows.now) (sym (append-nil done)) is;
+  stock = λ done is. subst (λ (ms : List Move). IsStock c.args.job.now.fields ms c.args.rows.now) (sym (append-nil done)) is;
   rows_ok = c.requires.rows_ok;
 }
 
@@ -20,7 +20,7 @@ pub loop-step-preserved : goal.loop-step-preserved
 loop-step-preserved c = record {
   stock = λ done is.
       let before = take c.loop-step.step-index c.args.moves.now in
-      subst (λ (ms : List Move). IsStock c.args.job.now ms c.cut_rows.new.rows)
+      subst (λ (ms : List Move). IsStock c.args.job.now.fields ms c.cut_rows.new.rows)
       (append_assoc done before (_ ∷ []) ∙ ap (λ ms. done ++ ms) (sym (take_more c.args.moves.now c.loop-step.step-index _ c.loop-step-test.true)))
       (c.cut_rows.ensures.stock (done ++ before) (c.loop-step.invariant.stock done is));
   rows_ok = c.cut_rows.ensures.rows_ok;
@@ -28,7 +28,7 @@ loop-step-preserved c = record {
 
 pub returns-clause-stock : goal.returns-clause-stock
 returns-clause-stock c = λ done follow tested.
-    subst (λ (ms : List Move). IsStock c.args.job.now (done ++ ms) c.loop-step.rows) (take_all c.loop-step.step-index c.args.moves.now c.loop-step-test.false)
+    subst (λ (ms : List Move). IsStock c.args.job.now.fields (done ++ ms) c.loop-step.rows) (take_all c.loop-step.step-index c.args.moves.now c.loop-step-test.false)
     (c.loop-step.invariant.stock done (follow tested))
 
 pub cut_rows-requires-clause-step : goal.cut_rows-requires-clause-step

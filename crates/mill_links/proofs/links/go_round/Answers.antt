@@ -14,7 +14,7 @@ returns-in_err-descend-clause-on c =
 
 pub returns-clause-ok : goal.returns-clause-ok
 returns-clause-ok c =
-    let job = c.args.job.now in
+    let job = c.args.job.now.fields in
     ok_gives c.plunge.result (λ added. four_added c.args.out.now.items (climb job c.args.from) (cross job c.args.from c.args.at) (descend job c.args.at) (plunge job c.args.at) _ _ _ _
     c.in_ok-climb.ensures.ok c.in_ok-cross.ensures.ok c.in_ok-descend.ensures.ok added) c.plunge.ensures.ok
 

@@ -19,29 +19,29 @@ some a b e = omega (e, arith, ints)
 
 pub returns-then-job-eq0-clause-value : goal.returns-then-job-eq0-clause-value
 returns-then-job-eq0-clause-value c =
-    let job = c.args.job.now in
-    let top = unit_coordinate job.unit job.top c.requires.job_ok.top_ok in
-    let z = coordinate c.args.at.z c.requires.at_ok.z_ok in
+    let job = c.args.job.now.fields in
+    let top = unit_coordinate job.unit job.top c.args.job.now.is_job.top_ok in
+    let z = coordinate c.args.at.z c.requires.z_ok in
     elim c.then-job-eq0.branch [
-      | then-job-eq0-via-then-job-eq0 w ↦ sym (no_pecks job.max_cut (job.top -ℤ c.args.at.z) (inl (no_limit job c.requires.job_ok w.if-job-eq0.true)))
+      | then-job-eq0-via-then-job-eq0 w ↦ sym (no_pecks job.max_cut (job.top -ℤ c.args.at.z) (inl (no_limit job c.args.job.now.is_job w.if-job-eq0.true)))
       | then-job-eq0-via-else-job-eq0+then-at-job w ↦
           sym (no_pecks job.max_cut (job.top -ℤ c.args.at.z) (inr (not_under job.top c.args.at.z (rw (top, z) at w.if-at-job.true))))
     ]
 
 pub overflow_sub-result : goal.overflow_sub-result
 overflow_sub-result c =
-    let job = c.args.job.now in
-    let top = unit_coordinate job.unit job.top c.requires.job_ok.top_ok in
-    let z = coordinate c.args.at.z c.requires.at_ok.z_ok in
+    let job = c.args.job.now.fields in
+    let top = unit_coordinate job.unit job.top c.args.job.now.is_job.top_ok in
+    let z = coordinate c.args.at.z c.requires.z_ok in
     let height : c.abs_diff.result ≡ nat_abs (job.top -ℤ c.args.at.z) = rw (top, z) at c.abs_diff.ensures in
     rw height (some job.top c.args.at.z (rw (top, z) at c.if-at-job.false))
 
 pub returns-clause-value : goal.returns-clause-value
 returns-clause-value c =
-    let job = c.args.job.now in
-    let top = unit_coordinate job.unit job.top c.requires.job_ok.top_ok in
-    let z = coordinate c.args.at.z c.requires.at_ok.z_ok in
+    let job = c.args.job.now.fields in
+    let top = unit_coordinate job.unit job.top c.args.job.now.is_job.top_ok in
+    let z = coordinate c.args.at.z c.requires.z_ok in
     let height : c.abs_diff.result ≡ nat_abs (job.top -ℤ c.args.at.z) = rw (top, z) at c.abs_diff.ensures in
-    let depth : c.unsigned_abs.result ≡ nat_abs job.max_cut = rw (limit_stored job c.requires.job_ok) at c.unsigned_abs.ensures.value in
+    let depth : c.unsigned_abs.result ≡ nat_abs job.max_cut = rw (limit_stored job c.args.job.now.is_job) at c.unsigned_abs.ensures.value in
     rw (height, depth)
-    (sym (some_pecks job.max_cut (job.top -ℤ c.args.at.z) (some_limit job c.requires.job_ok c.if-job-eq0.false) (under job.top c.args.at.z (rw (top, z) at c.if-at-job.false))))
+    (sym (some_pecks job.max_cut (job.top -ℤ c.args.at.z) (some_limit job c.args.job.now.is_job c.if-job-eq0.false) (under job.top c.args.at.z (rw (top, z) at c.if-at-job.false))))

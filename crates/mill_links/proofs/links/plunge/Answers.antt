@@ -23,48 +23,48 @@ some n k inside = omega (inside, arith)
 
 pub overflow_sub-low : goal.overflow_sub-low
 overflow_sub-low c =
-    let job = c.args.job.now in
+    let job = c.args.job.now.fields in
     let n = c.peck_count-end.result in
     let under = less c.args.at.z job.top (c.peck_count-end.ensures.under (some n c.loop.counter c.loop-test.true)) in
     let so_far = subst (λ m. Plunges job c.args.at c.args.out.now.items c.loop.out.items m (to_z w32 c.loop.z-bits)) (left n c.loop.counter c.loop-test.true) c.loop.invariant in
-    rw (limit_stored job c.requires.job_ok)
-    (fits_within _ (one_within job c.args.at c.args.out.now.items c.requires.job_ok c.loop.out.items (n - (c.loop.counter + 1)) (to_z w32 c.loop.z-bits) c.requires.at_ok.z_ok under so_far))
+    rw (limit_stored job c.args.job.now.is_job)
+    (fits_within _ (one_within job c.args.at c.args.out.now.items c.args.job.now.is_job c.loop.out.items (n - (c.loop.counter + 1)) (to_z w32 c.loop.z-bits) c.requires.z_ok under so_far))
 
 all_left : (n : ℕ) → n - 0 ≡ n
 all_left n = omega arith
 
 pub loop-init : goal.loop-init
 loop-init c =
-    let job = c.args.job.now in
+    let job = c.args.job.now.fields in
     let count = c.peck_count-end.ensures.value in
-    rw (unit_coordinate job.unit job.top c.requires.job_ok.top_ok)
+    rw (unit_coordinate job.unit job.top c.args.job.now.is_job.top_ok)
     (subst (λ n. Plunges job c.args.at c.args.out.now.items c.args.out.now.items n job.top) (sym (all_left c.peck_count-end.result ∙ count))
-    (at_first job c.args.at c.args.out.now.items c.requires.job_ok))
+    (at_first job c.args.at c.args.out.now.items c.args.job.now.is_job))
 
 pub loop-preserved : goal.loop-preserved
 loop-preserved c =
-    let job = c.args.job.now in
+    let job = c.args.job.now.fields in
     let n = c.peck_count-end.result in
     let rest = n - (c.loop.counter + 1) in
     let z = to_z w32 c.loop.z-bits in
     let under = less c.args.at.z job.top (c.peck_count-end.ensures.under (some n c.loop.counter c.loop-test.true)) in
     let so_far = subst (λ m. Plunges job c.args.at c.args.out.now.items c.loop.out.items m z) (left n c.loop.counter c.loop-test.true) c.loop.invariant in
-    let within = one_within job c.args.at c.args.out.now.items c.requires.job_ok c.loop.out.items rest z c.requires.at_ok.z_ok under so_far in
+    let within = one_within job c.args.at c.args.out.now.items c.args.job.now.is_job c.loop.out.items rest z c.requires.z_ok under so_far in
     let low : to_z w32 (of_z w32 (z -ℤ to_z w32 (of_z w32 job.max_cut))) ≡ z -ℤ job.max_cut =
-    ap (λ d. to_z w32 (of_z w32 (z -ℤ d))) (limit_stored job c.requires.job_ok) ∙ to_z-of_z w32 (z -ℤ job.max_cut) (fits_within (z -ℤ job.max_cut) within) in
+    ap (λ d. to_z w32 (of_z w32 (z -ℤ d))) (limit_stored job c.args.job.now.is_job) ∙ to_z-of_z w32 (z -ℤ job.max_cut) (fits_within (z -ℤ job.max_cut) within) in
     let end = c.at_height-in-loop.ensures ∙ ap (λ h. at_height c.args.at h) low in
     let step = c.feed_to.ensures ∙ ap (λ p. feed_to p c.at_height-in-loop.result) c.at_height.ensures ∙ ap (λ p. feed_to (at_height c.args.at z) p) end in
     subst (λ h. Plunges job c.args.at c.args.out.now.items c.add.new.out.items rest h) (sym low)
-    (one_more job c.args.at c.args.out.now.items c.requires.job_ok c.loop.out.items c.add.new.out.items rest z under so_far
+    (one_more job c.args.at c.args.out.now.items c.args.job.now.is_job c.loop.out.items c.add.new.out.items rest z under so_far
     (subst (λ (m : Move). c.add.new.out.items ≡ c.loop.out.items ++ m ∷ []) step c.in_ok-add.ensures.ok))
 
 pub returns-clause-ok : goal.returns-clause-ok
 returns-clause-ok c =
-    let job = c.args.job.now in
+    let job = c.args.job.now.fields in
     let z = to_z w32 c.loop.z-bits in
     let so_far = subst (λ m. Plunges job c.args.at c.args.out.now.items c.loop.out.items m z) (none_left c.peck_count-end.result c.loop.counter c.loop-test.false) c.loop.invariant in
     let step = c.feed_to-2.ensures ∙ ap (λ p. feed_to p c.args.at) c.at_height-2.ensures in
-    ok_gives c.add-2.result (λ added. at_last job c.args.at c.args.out.now.items c.requires.job_ok c.loop.out.items c.add-2.new.out.items z so_far
+    ok_gives c.add-2.result (λ added. at_last job c.args.at c.args.out.now.items c.args.job.now.is_job c.loop.out.items c.add-2.new.out.items z so_far
     (subst (λ (m : Move). c.add-2.new.out.items ≡ c.loop.out.items ++ m ∷ []) step added)) c.add-2.ensures.ok
 
 pub returns-clause-on : goal.returns-clause-on

@@ -8,7 +8,7 @@ returns-in-Ok-clause-told g c = λ contents held.
     let start = g.S.Shelf.shows c.args.shelf.now in
     let between = g.S.Shelf.shows c.load_job.new.shelf in
     let parts = in_parts contents start.contents between.contents _ _ _ c.in-Ok.ensures.store.held c.load_under.ensures.store.held held in
-    under_loads (setup_texts contents c.args.job.now c.args.part.now) c.in-Ok.job c.load_under.result (c.in-Ok.ensures.told contents parts.first) (c.load_under.ensures.told contents parts.next)
+    under_loads (setup_texts contents c.args.job.now c.args.part.now) c.in-Ok.job.fields c.load_under.result (c.in-Ok.ensures.told contents parts.first) (c.load_under.ensures.told contents parts.next)
 
 pub returns-in-Ok-clause-failed : goal.returns-in-Ok-clause-failed
 returns-in-Ok-clause-failed g c = λ names job part. c.load_under.ensures.failed names part

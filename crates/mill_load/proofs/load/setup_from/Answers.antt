@@ -10,6 +10,6 @@ use Rattle.mill_load.proofs.load.setup_from.Goals as goal
 pub returns-in-Some-clause-told : goal.returns-in-Some-clause-told
 returns-in-Some-clause-told c =
     let height_fits : FitsSigned w32 c.in-Some.height = search rules in
-    let top_fits : FitsSigned w32 c.args.job.top = search rules in
-    let high : JoinsPart c.args.job c.args.part (Err (Unfit (PartTop c.in-Some.height c.args.job.top c.args.job.unit))) = high_joined c.args.job c.args.part c.in-Some.height c.in-Some.ensures in
+    let top_fits : FitsSigned w32 c.args.job.fields.top = search rules in
+    let high : JoinsPart c.args.job.fields c.args.part (Err (Unfit (PartTop c.in-Some.height c.args.job.fields.top c.args.job.fields.unit))) = high_joined c.args.job.fields c.args.part c.in-Some.height c.in-Some.ensures in
     simp to_z-of_z high

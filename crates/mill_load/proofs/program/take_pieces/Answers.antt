@@ -46,7 +46,7 @@ pub returns-in-Ok-eq0-clause-store : goal.returns-in-Ok-eq0-clause-store
 returns-in-Ok-eq0-clause-store g c =
     let inv = c.loop-reader.invariant in record {
       only = reads_on _ _ _ inv.only c.next.ensures.only;
-      reads = c.in-Ok-eq0.ensures.cause inv.going ∙ inv.faults;
+      reads = (c.in-Ok-eq0.ensures.ends inv.going).0 ∙ inv.faults;
       held = held_next (g.S.Shelf.shows c.args.pieces.now.shelf.now) (g.S.Shelf.shows c.loop-reader.pieces.shelf.now) (g.S.Shelf.shows c.next.new.self.shelf.now) inv.only inv.held c.next.ensures.held;
     }
 
@@ -68,25 +68,25 @@ loop-reader-preserved g c =
     c.in-Ok.ensures.within taken in
     record {
       going = search rules;
-      name = c.next.ensures.name ∙ c.loop-reader.invariant.name;
-      limit = c.next.ensures.limit ∙ c.loop-reader.invariant.limit;
-      same = c.next.ensures.same_reference ∙ c.loop-reader.invariant.same;
+      name = c.next.ensures.same.1.0 ∙ c.loop-reader.invariant.name;
+      limit = c.next.ensures.same.1.1 ∙ c.loop-reader.invariant.limit;
+      same = c.next.ensures.same.0 ∙ c.loop-reader.invariant.same;
       room = search rules;
       only = reads_on _ _ _ c.loop-reader.invariant.only c.next.ensures.only;
-      faults = c.in-Ok.ensures.cause c.loop-reader.invariant.going ∙ c.loop-reader.invariant.faults;
+      faults = (c.in-Ok.ensures.ends c.loop-reader.invariant.going).0 ∙ c.loop-reader.invariant.faults;
       held = held_next start before after c.loop-reader.invariant.only c.loop-reader.invariant.held c.next.ensures.held;
-      front = rw c.in-Ok.ensures.given front;
+      front = rw c.in-Ok.ensures.moved.0 front;
     }
 
 pub returns-in-Err-ReadFault-clause-failed : goal.returns-in-Err-ReadFault-clause-failed
 returns-in-Err-ReadFault-clause-failed g c = λ names same.
     subst (λ (name : List ℕ). LastFails name (g.S.Shelf.shows c.next.new.self.shelf.now).log) (c.loop-reader.invariant.name ∙ sym same)
-    (c.next.ensures.failed c.loop-reader.invariant.going cc)
+    ((c.next.ensures.ends c.loop-reader.invariant.going).1 cc)
 
 pub returns-in-Err-ReadFault-clause-store : goal.returns-in-Err-ReadFault-clause-store
 returns-in-Err-ReadFault-clause-store g c =
     let inv = c.loop-reader.invariant in
-    let cause = c.next.ensures.cause inv.going in record {
+    let cause = (c.next.ensures.ends inv.going).0 in record {
       only = reads_on _ _ _ inv.only c.next.ensures.only;
       reads = search rules;
       held = held_next (g.S.Shelf.shows c.args.pieces.now.shelf.now) (g.S.Shelf.shows c.loop-reader.pieces.shelf.now) (g.S.Shelf.shows c.next.new.self.shelf.now) inv.only inv.held c.next.ensures.held;
@@ -95,7 +95,7 @@ returns-in-Err-ReadFault-clause-store g c =
 pub returns-in-Err-TooLong-clause-store : goal.returns-in-Err-TooLong-clause-store
 returns-in-Err-TooLong-clause-store g c =
     let inv = c.loop-reader.invariant in
-    let cause = c.next.ensures.cause inv.going in record {
+    let cause = (c.next.ensures.ends inv.going).0 in record {
       only = reads_on _ _ _ inv.only c.next.ensures.only;
       reads = search rules;
       held = held_next (g.S.Shelf.shows c.args.pieces.now.shelf.now) (g.S.Shelf.shows c.loop-reader.pieces.shelf.now) (g.S.Shelf.shows c.next.new.self.shelf.now) inv.only inv.held c.next.ensures.held;
@@ -104,7 +104,7 @@ returns-in-Err-TooLong-clause-store g c =
 pub returns-in_err-take_piece-clause-store : goal.returns-in_err-take_piece-clause-store
 returns-in_err-take_piece-clause-store g c =
     let inv = c.loop-reader.invariant in
-    let cause = c.next.ensures.cause inv.going in record {
+    let cause = (c.next.ensures.ends inv.going).0 in record {
       only = reads_on _ _ _ inv.only c.next.ensures.only;
       reads = search rules;
       held = held_next (g.S.Shelf.shows c.args.pieces.now.shelf.now) (g.S.Shelf.shows c.loop-reader.pieces.shelf.now) (g.S.Shelf.shows c.next.new.self.shelf.now) inv.only inv.held c.next.ensures.held;

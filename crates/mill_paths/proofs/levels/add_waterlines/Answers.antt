@@ -16,13 +16,13 @@ returns-in_err-add_chains-clause-fault c =
     let here = rw (c.deref.ensures.value, c.chains-item.is) at c.in_err-add_chains.ensures.fault in
     rw (p.1, p.2)
     (subst (λ (vs : List Visit). IsListFault (c.args.list.now.visits.items ++ vs) c.in_err-add_chains.field-0.0)
-    (sym (flat_map-map (flat_map (outline_visits c.args.job.now.raster)) (λ chains. map seen chains.items) c.args.waterlines.now))
-    (adds_fault (λ chains. flat_map (outline_visits c.args.job.now.raster) (map seen chains.items)) c.args.waterlines.now c.chains-item.result c.loop-chains.chains-index
+    (sym (flat_map-map (flat_map (outline_visits c.args.job.now.fields.raster)) (λ chains. map seen chains.items) c.args.waterlines.now))
+    (adds_fault (λ chains. flat_map (outline_visits c.args.job.now.fields.raster) (map seen chains.items)) c.args.waterlines.now c.chains-item.result c.loop-chains.chains-index
     c.args.list.now.visits.items c.loop-chains.list.visits.items c.in_err-add_chains.field-0.0 inside c.loop-chains.invariant here))
 
 pub returns-clause-ok : goal.returns-clause-ok
 returns-clause-ok c =
     let past : length c.args.waterlines.now ≤ c.loop-chains.chains-index = omega arith in
-    adds_all (λ chains. flat_map (outline_visits c.args.job.now.raster) (map seen chains.items)) c.args.waterlines.now c.loop-chains.chains-index
+    adds_all (λ chains. flat_map (outline_visits c.args.job.now.fields.raster) (map seen chains.items)) c.args.waterlines.now c.loop-chains.chains-index
     c.args.list.now.visits.items c.loop-chains.list.visits.items past c.loop-chains.invariant
-    ∙ ap (λ (vs : List Visit). c.args.list.now.visits.items ++ vs) (sym (flat_map-map (flat_map (outline_visits c.args.job.now.raster)) (λ chains. map seen chains.items) c.args.waterlines.now))
+    ∙ ap (λ (vs : List Visit). c.args.list.now.visits.items ++ vs) (sym (flat_map-map (flat_map (outline_visits c.args.job.now.fields.raster)) (λ chains. map seen chains.items) c.args.waterlines.now))

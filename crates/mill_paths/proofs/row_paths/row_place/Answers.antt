@@ -16,21 +16,21 @@ upto a b c h e = omega (h, e, arith)
 
 pub overflow_mul-row : goal.overflow_mul-row
 overflow_mul-row c =
-    let lattice : Lattice = finish_lattice c.args.job.now in
+    let lattice : Lattice = finish_lattice c.args.job.now.fields in
     let columns : c.node_columns.result ≡ length (lattice_xs lattice) = c.node_columns.ensures.value ∙ ap (λ (l : Lattice). length (lattice_xs l)) c.finish_lattice-lattice.ensures in
     fits (c.args.row * c.node_columns.result) c.node_columns.result
     (upto (c.args.row * c.node_columns.result + c.node_columns.result) (node_count lattice) MAX_NODES (row_within lattice c.node_columns.result c.args.row columns c.requires.row_ok) c.requires.few)
 
 pub node-y-requires-clause-number_ok : goal.node-y-requires-clause-number_ok
 node-y-requires-clause-number_ok c =
-    let lattice : Lattice = finish_lattice c.args.job.now in
+    let lattice : Lattice = finish_lattice c.args.job.now.fields in
     let columns : c.node_columns.result ≡ length (lattice_xs lattice) = c.node_columns.ensures.value ∙ ap (λ (l : Lattice). length (lattice_xs l)) c.finish_lattice-lattice.ensures in
     subst (λ (l : Lattice). c.args.row * c.node_columns.result < length (nodes_of l)) (sym c.finish_lattice-lattice.ensures)
     (start_within lattice c.node_columns.result c.args.row columns c.node_columns.ensures.some c.requires.row_ok)
 
 pub returns : goal.returns
 returns c =
-    let lattice : Lattice = finish_lattice c.args.job.now in
+    let lattice : Lattice = finish_lattice c.args.job.now.fields in
     let columns : c.node_columns.result ≡ length (lattice_xs lattice) = c.node_columns.ensures.value ∙ ap (λ (l : Lattice). length (lattice_xs l)) c.finish_lattice-lattice.ensures in
     coordinate c.node-y.result.1 c.node-y.ensures.y_ok
     ∙ ap (λ (node : ℤ × ℤ). node.1) c.node-y.ensures.place

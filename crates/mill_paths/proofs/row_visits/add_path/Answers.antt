@@ -21,16 +21,16 @@ add_point-requires-clause-before_ok c = c.loop-point.invariant.inside
 pub loop-point-init : goal.loop-point-init
 loop-point-init c =
     let is : slice_get c.args.points.now 0 ≡ Some c.in-Some.first.now = sym c.first.ensures.value ∙ ap option_copied c.in-Some.is in
-    record { come = refl; inside = at_first (IsInArea c.args.job.now) c.args.points.now c.in-Some.first.now is c.requires.points_ok; visits = sym (append-nil c.args.list.now.visits.items) }
+    record { come = refl; inside = at_first (IsInArea c.args.job.now.fields) c.args.points.now c.in-Some.first.now is c.requires; visits = sym (append-nil c.args.list.now.visits.items) }
 
 pub loop-point-preserved : goal.loop-point-preserved
 loop-point-preserved c =
     let inside : c.loop-point.point-index < length c.args.points.now = omega arith in
     let so_far = c.loop-point.invariant in
     record {
-      come = last_is c.args.job.now c.in-Some.first.now c.args.points.now (point_at (pos 0) (pos 0) (pos 0)) c.loop-point.point-index inside;
-      inside = c.requires.points_ok c.loop-point.point-index (point_at (pos 0) (pos 0) (pos 0)) inside;
-      visits = point_more c.args.job.now c.in-Some.first.now c.loop-point.before c.args.points.now (point_at (pos 0) (pos 0) (pos 0)) c.loop-point.point-index
+      come = last_is c.args.job.now.fields c.in-Some.first.now c.args.points.now (point_at (pos 0) (pos 0) (pos 0)) c.loop-point.point-index inside;
+      inside = c.requires c.loop-point.point-index (point_at (pos 0) (pos 0) (pos 0)) inside;
+      visits = point_more c.args.job.now.fields c.in-Some.first.now c.loop-point.before c.args.points.now (point_at (pos 0) (pos 0) (pos 0)) c.loop-point.point-index
           c.args.list.now.visits.items c.loop-point.list.visits.items c.add_point.new.list.visits.items inside so_far.come so_far.visits c.in_ok-add_point.ensures.ok;
     }
 
@@ -41,8 +41,8 @@ returns-in_err-add_point-clause-fault c =
     let is : slice_get c.args.points.now 0 ≡ Some c.in-Some.first.now = sym c.first.ensures.value ∙ ap option_copied c.in-Some.is in
     let so_far = c.loop-point.invariant in
     rw (p.1, p.2)
-    (subst (λ (vs : List Visit). IsListFault (c.args.list.now.visits.items ++ vs) c.in_err-add_point.field-0.0) (sym (from_first c.args.job.now c.args.points.now c.in-Some.first.now is))
-    (point_fault c.args.job.now c.in-Some.first.now c.loop-point.before c.args.points.now (point_at (pos 0) (pos 0) (pos 0)) c.loop-point.point-index
+    (subst (λ (vs : List Visit). IsListFault (c.args.list.now.visits.items ++ vs) c.in_err-add_point.field-0.0) (sym (from_first c.args.job.now.fields c.args.points.now c.in-Some.first.now is))
+    (point_fault c.args.job.now.fields c.in-Some.first.now c.loop-point.before c.args.points.now (point_at (pos 0) (pos 0) (pos 0)) c.loop-point.point-index
     c.args.list.now.visits.items c.loop-point.list.visits.items c.in_err-add_point.field-0.0 inside so_far.come so_far.visits c.in_err-add_point.ensures.fault))
 
 pub returns-clause-ok : goal.returns-clause-ok
@@ -50,5 +50,5 @@ returns-clause-ok c =
     let past : length c.args.points.now ≤ c.loop-point.point-index = omega arith in
     let is : slice_get c.args.points.now 0 ≡ Some c.in-Some.first.now = sym c.first.ensures.value ∙ ap option_copied c.in-Some.is in
     c.loop-point.invariant.visits
-    ∙ ap (λ (points : List Pt3). c.args.list.now.visits.items ++ visits_after c.args.job.now c.in-Some.first.now points) (take_all c.loop-point.point-index c.args.points.now past)
-    ∙ ap (λ (vs : List Visit). c.args.list.now.visits.items ++ vs) (sym (from_first c.args.job.now c.args.points.now c.in-Some.first.now is))
+    ∙ ap (λ (points : List Pt3). c.args.list.now.visits.items ++ visits_after c.args.job.now.fields c.in-Some.first.now points) (take_all c.loop-point.point-index c.args.points.now past)
+    ∙ ap (λ (vs : List Visit). c.args.list.now.visits.items ++ vs) (sym (from_first c.args.job.now.fields c.args.points.now c.in-Some.first.now is))

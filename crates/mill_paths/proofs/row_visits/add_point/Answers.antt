@@ -11,7 +11,7 @@ use Rattle.mill_paths.proofs.row_visits.add_point.Goals as goal
 
 pub returns-in-Some-clause-ok : goal.returns-in-Some-clause-ok
 returns-in-Some-clause-ok c =
-    let job = c.args.job.now in
+    let job = c.args.job.now.fields in
     let p = c.args.point in
     let x = to_z-of_z w32 p.x (search rules) in
     let y = to_z-of_z w32 p.y (search rules) in
@@ -24,7 +24,7 @@ returns-in-Some-clause-ok c =
 
 pub returns-in-Some-clause-fault : goal.returns-in-Some-clause-fault
 returns-in-Some-clause-fault c =
-    let job = c.args.job.now in
+    let job = c.args.job.now.fields in
     let p = c.args.point in
     let x = to_z-of_z w32 p.x (search rules) in
     let y = to_z-of_z w32 p.y (search rules) in
@@ -38,5 +38,5 @@ returns-in-Some-clause-fault c =
 pub returns-in-None-clause-ok : goal.returns-in-None-clause-ok
 returns-in-None-clause-ok c =
     let drop = to_z-of_z w32 c.args.point.z (search rules) in
-    let none : None ≡ path_height c.args.job.now Finish c.args.point.z = c.in-None.ensures ∙ ap (λ (h : ℤ). path_height c.args.job.now Finish h) drop in
-    sym (append-nil c.args.list.now.visits.items) ∙ ap (λ (vs : List Visit). c.args.list.now.visits.items ++ vs) (point_nowhere c.args.job.now c.args.before c.args.point none)
+    let none : None ≡ path_height c.args.job.now.fields Finish c.args.point.z = c.in-None.ensures ∙ ap (λ (h : ℤ). path_height c.args.job.now.fields Finish h) drop in
+    sym (append-nil c.args.list.now.visits.items) ∙ ap (λ (vs : List Visit). c.args.list.now.visits.items ++ vs) (point_nowhere c.args.job.now.fields c.args.before c.args.point none)

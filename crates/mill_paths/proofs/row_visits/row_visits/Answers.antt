@@ -20,17 +20,17 @@ joined a b h = omega (h, arith)
 within : (a b c : ℕ) → a ≤ b → b ≤ c → a + (b - a) ≤ c
 within a b c h e = omega (h, e, arith)
 
-pub add_paths-requires-clause-points_ok : goal.add_paths-requires-clause-points_ok
-add_paths-requires-clause-points_ok g c =
+pub add_paths-requires : goal.add_paths-requires
+add_paths-requires g c =
     let kept = band_kept c.args.tol c.requires.tol_ok.low c.requires.tol_ok.high in
     rw c.deref.ensures.value
-    (all_inside (λ path. path.items) c.args.job.now c.args.part.now c.args.tol (range_with_len c.loop-first.first (c.min-end.result - c.loop-first.first)) c.in_ok-paths.paths.items
-    c.requires.job_ok (rw kept at c.in_ok-paths.ensures))
+    (all_inside (λ path. path.items) c.args.job.now.fields c.args.part.now c.args.tol (range_with_len c.loop-first.first (c.min-end.result - c.loop-first.first)) c.in_ok-paths.paths.items
+    c.args.job.now.is_job (rw kept at c.in_ok-paths.ensures))
 
 pub returns-in_err-add_paths-clause-fault : goal.returns-in_err-add_paths-clause-fault
 returns-in_err-add_paths-clause-fault g c =
     let p = err_from_is_err_and c.from_residual-in_err-add_paths.result c.from_residual-in_err-add_paths.ensures.1 in
-    let job = c.args.job.now in
+    let job = c.args.job.now.fields in
     let kept = band_kept c.args.tol c.requires.tol_ok.low c.requires.tol_ok.high in
     let so_far = rw kept at c.loop-first.invariant in
     let turned = rw kept at c.in_ok-paths.ensures in
@@ -49,7 +49,7 @@ returns-in_err-add_paths-clause-fault g c =
 
 pub loop-first-preserved : goal.loop-first-preserved
 loop-first-preserved g c =
-    let job = c.args.job.now in
+    let job = c.args.job.now.fields in
     let kept = band_kept c.args.tol c.requires.tol_ok.low c.requires.tol_ok.high in
     let so_far = rw kept at c.loop-first.invariant in
     let turned = rw kept at c.in_ok-paths.ensures in
@@ -69,6 +69,6 @@ loop-first-preserved g c =
 pub returns-clause-list : goal.returns-clause-list
 returns-clause-list g c =
     let kept = band_kept c.args.tol c.requires.tol_ok.low c.requires.tol_ok.high in
-    let all : length (lattice_ys (finish_lattice c.args.job.now)) ≤ c.loop-first.first = omega (arith, c.in_ok-rows.ensures.value) in
-    subst (λ (visits : List Visit). AreRowVisits c.args.job.now c.args.part.now c.args.tol visits) (sym c.into_visits.ensures.visits)
-    (all_rows c.args.job.now c.args.part.now c.args.tol c.loop-first.first c.loop-first.list.visits.items all (rw kept at c.loop-first.invariant))
+    let all : length (lattice_ys (finish_lattice c.args.job.now.fields)) ≤ c.loop-first.first = omega (arith, c.in_ok-rows.ensures.value) in
+    subst (λ (visits : List Visit). AreRowVisits c.args.job.now.fields c.args.part.now c.args.tol visits) (sym c.into_visits.ensures.visits)
+    (all_rows c.args.job.now.fields c.args.part.now c.args.tol c.loop-first.first c.loop-first.list.visits.items all (rw kept at c.loop-first.invariant))

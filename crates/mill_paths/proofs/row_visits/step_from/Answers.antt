@@ -17,21 +17,21 @@ back_fits u v u_ok v_ok = let p = u_ok.within in let q = v_ok.within in omega (p
 
 pub overflow_sub-point : goal.overflow_sub-point
 overflow_sub-point c =
-    let to : Within MAX_COORDINATE c.args.point.x = x_within c.args.job.now c.args.point c.requires.job_ok c.requires.point_ok in
-    let from : Within MAX_COORDINATE c.args.before.x = x_within c.args.job.now c.args.before c.requires.job_ok c.requires.before_ok in
+    let to : Within MAX_COORDINATE c.args.point.x = x_within c.args.job.now.fields c.args.point c.args.job.now.is_job c.requires.point_ok in
+    let from : Within MAX_COORDINATE c.args.before.x = x_within c.args.job.now.fields c.args.before c.args.job.now.is_job c.requires.before_ok in
     rw (coordinate c.args.point.x to, coordinate c.args.before.x from) (way_fits c.args.point.x c.args.before.x to from)
 
 pub abs-requires : goal.abs-requires
 abs-requires c =
-    let to : Within MAX_COORDINATE c.args.point.x = x_within c.args.job.now c.args.point c.requires.job_ok c.requires.point_ok in
-    let from : Within MAX_COORDINATE c.args.before.x = x_within c.args.job.now c.args.before c.requires.job_ok c.requires.before_ok in
+    let to : Within MAX_COORDINATE c.args.point.x = x_within c.args.job.now.fields c.args.point c.args.job.now.is_job c.requires.point_ok in
+    let from : Within MAX_COORDINATE c.args.before.x = x_within c.args.job.now.fields c.args.before c.args.job.now.is_job c.requires.before_ok in
     rw (coordinate c.args.point.x to, coordinate c.args.before.x from, to_z-of_z w32 (c.args.point.x -ℤ c.args.before.x) (way_fits c.args.point.x c.args.before.x to from))
     (back_fits c.args.point.x c.args.before.x to from)
 
 pub returns : goal.returns
 returns c =
-    let to : Within MAX_COORDINATE c.args.point.x = x_within c.args.job.now c.args.point c.requires.job_ok c.requires.point_ok in
-    let from : Within MAX_COORDINATE c.args.before.x = x_within c.args.job.now c.args.before c.requires.job_ok c.requires.before_ok in
+    let to : Within MAX_COORDINATE c.args.point.x = x_within c.args.job.now.fields c.args.point c.args.job.now.is_job c.requires.point_ok in
+    let from : Within MAX_COORDINATE c.args.before.x = x_within c.args.job.now.fields c.args.before c.args.job.now.is_job c.requires.before_ok in
     let way = rw (coordinate c.args.point.x to, coordinate c.args.before.x from, to_z-of_z w32 (c.args.point.x -ℤ c.args.before.x) (way_fits c.args.point.x c.args.before.x to from)) at c.abs.ensures.value in
-    let is : stored w32 c.max.result ≡ greater c.args.job.now.raster c.abs.result = most c.max.result c.args.job.now.raster c.abs.result (search rules) (search rules) (search rules) c.max.ensures.value in
-    is ∙ ap (λ (d : ℤ). greater c.args.job.now.raster d) way
+    let is : stored w32 c.max.result ≡ greater c.args.job.now.fields.raster c.abs.result = most c.max.result c.args.job.now.fields.raster c.abs.result (search rules) (search rules) (search rules) c.max.ensures.value in
+    is ∙ ap (λ (d : ℤ). greater c.args.job.now.fields.raster d) way

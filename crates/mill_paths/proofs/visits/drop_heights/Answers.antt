@@ -3,7 +3,7 @@ use Rattle.mill_paths.proofs.visits.drop_heights.Goals as goal
 
 pub returns-clause-heights : goal.returns-clause-heights
 returns-clause-heights g c =
-    let floor = unit_coordinate c.args.job.now.unit c.args.job.now.floor c.requires.job_ok.floor_ok in
+    let floor = unit_coordinate c.args.job.now.fields.unit c.args.job.now.fields.floor c.args.job.now.is_job.floor_ok in
     simp (floor, c.tool-tool.ensures) at c.in_ok-drop_map.ensures.heights
 
 pub returns-clause-lattice_ok : goal.returns-clause-lattice_ok

@@ -8,27 +8,27 @@ use Rattle.mill_paths.proofs.visits.finish_visits.Goals as goal
 
 pub returns-in-None-clause-each : goal.returns-in-None-clause-each
 returns-in-None-clause-each g c =
-    let job = c.args.job.now in
+    let job = c.args.job.now.fields in
     let part = c.args.part.now in
-    made_free job part (AreNodeVisits job part) c.node_visits.result c.requires.job_ok (λ list are. at_nodes job part list c.in-None.is are) c.node_visits.ensures.list
+    made_free job part (AreNodeVisits job part) c.node_visits.result c.args.job.now.is_job (λ list are. at_nodes job part list c.in-None.is are) c.node_visits.ensures.list
 
 pub returns-in-None-clause-many : goal.returns-in-None-clause-many
 returns-in-None-clause-many g c =
-    let job = c.args.job.now in
+    let job = c.args.job.now.fields in
     let part = c.args.part.now in
     made_few job part (AreNodeVisits job part) c.node_visits.result (λ list are. at_nodes job part list c.in-None.is are) c.node_visits.ensures.list c.node_visits.ensures.few
 
 pub returns-in-Some-clause-each : goal.returns-in-Some-clause-each
 returns-in-Some-clause-each g c =
-    let job = c.args.job.now in
+    let job = c.args.job.now.fields in
     let part = c.args.part.now in
     let tol : ℤ = stored w32 c.in-Some.tol in
     let is : job.path_tol ≡ Some tol = c.in-Some.is ∙ ap Some (sym (to_z-of_z w32 c.in-Some.tol (search rules))) in
-    made_free job part (AreRowVisits job part tol) c.row_visits.result c.requires.job_ok (λ list are. along_rows job part tol list is are) c.row_visits.ensures.list
+    made_free job part (AreRowVisits job part tol) c.row_visits.result c.args.job.now.is_job (λ list are. along_rows job part tol list is are) c.row_visits.ensures.list
 
 pub returns-in-Some-clause-many : goal.returns-in-Some-clause-many
 returns-in-Some-clause-many g c =
-    let job = c.args.job.now in
+    let job = c.args.job.now.fields in
     let part = c.args.part.now in
     let tol : ℤ = stored w32 c.in-Some.tol in
     let is : job.path_tol ≡ Some tol = c.in-Some.is ∙ ap Some (sym (to_z-of_z w32 c.in-Some.tol (search rules))) in

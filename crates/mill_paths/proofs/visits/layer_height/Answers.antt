@@ -8,24 +8,24 @@ use Rattle.mill_paths.proofs.visits.layer_height.Goals as goal
 
 pub overflow_add-lowered : goal.overflow_add-lowered
 overflow_add-lowered c =
-    let h : IsLowered c.args.job.now c.args.number = is_lowered c.args.job.now c.args.number c.requires.job_ok c.requires.layer_ok c.requires.number_ok in
+    let h : IsLowered c.args.job.now.fields c.args.number = is_lowered c.args.job.now.fields c.args.number c.args.job.now.is_job c.requires.layer_ok c.requires.number_ok in
     let low = h.counted in
     let small = h.small in
     omega arith
 
 pub overflow_mul-lowered : goal.overflow_mul-lowered
 overflow_mul-lowered c =
-    let h : IsLowered c.args.job.now c.args.number = is_lowered c.args.job.now c.args.number c.requires.job_ok c.requires.layer_ok c.requires.number_ok in
-    let layer = unit_coordinate c.args.job.now.unit c.args.job.now.layer (layer_within c.args.job.now c.requires.job_ok) in
-    let thick : c.unsigned_abs.result ≡ nat_abs c.args.job.now.layer = rw layer at c.unsigned_abs.ensures.value in
+    let h : IsLowered c.args.job.now.fields c.args.number = is_lowered c.args.job.now.fields c.args.number c.args.job.now.is_job c.requires.layer_ok c.requires.number_ok in
+    let layer = unit_coordinate c.args.job.now.fields.unit c.args.job.now.fields.layer (layer_within c.args.job.now.fields c.args.job.now.is_job) in
+    let thick : c.unsigned_abs.result ≡ nat_abs c.args.job.now.fields.layer = rw layer at c.unsigned_abs.ensures.value in
     let small = h.small in
     rw thick (omega arith)
 
 pub overflow_cast-result : goal.overflow_cast-result
 overflow_cast-result c =
-    let h : IsLowered c.args.job.now c.args.number = is_lowered c.args.job.now c.args.number c.requires.job_ok c.requires.layer_ok c.requires.number_ok in
-    let layer = unit_coordinate c.args.job.now.unit c.args.job.now.layer (layer_within c.args.job.now c.requires.job_ok) in
-    let thick : c.unsigned_abs.result ≡ nat_abs c.args.job.now.layer = rw layer at c.unsigned_abs.ensures.value in
+    let h : IsLowered c.args.job.now.fields c.args.number = is_lowered c.args.job.now.fields c.args.number c.args.job.now.is_job c.requires.layer_ok c.requires.number_ok in
+    let layer = unit_coordinate c.args.job.now.fields.unit c.args.job.now.fields.layer (layer_within c.args.job.now.fields c.args.job.now.is_job) in
+    let thick : c.unsigned_abs.result ≡ nat_abs c.args.job.now.fields.layer = rw layer at c.unsigned_abs.ensures.value in
     let small = h.small in
     rw thick (omega (arith, ints))
 
@@ -34,19 +34,19 @@ small_number n h = omega arith
 
 pub overflow_sub-result : goal.overflow_sub-result
 overflow_sub-result c =
-    let h : IsLowered c.args.job.now c.args.number = is_lowered c.args.job.now c.args.number c.requires.job_ok c.requires.layer_ok c.requires.number_ok in
-    let layer = unit_coordinate c.args.job.now.unit c.args.job.now.layer (layer_within c.args.job.now c.requires.job_ok) in
-    let thick : c.unsigned_abs.result ≡ nat_abs c.args.job.now.layer = rw layer at c.unsigned_abs.ensures.value in
-    let top = unit_coordinate c.args.job.now.unit c.args.job.now.top c.requires.job_ok.top_ok in
-    let down : to_z w32 (lowering c.args.job.now c.args.number) ≡ pos (lowering c.args.job.now c.args.number) = to_z_pos w32 _ (small_number _ h.small) in
-    rw (thick, top, down) (layer_height_fits c.args.job.now c.args.number c.requires.job_ok h)
+    let h : IsLowered c.args.job.now.fields c.args.number = is_lowered c.args.job.now.fields c.args.number c.args.job.now.is_job c.requires.layer_ok c.requires.number_ok in
+    let layer = unit_coordinate c.args.job.now.fields.unit c.args.job.now.fields.layer (layer_within c.args.job.now.fields c.args.job.now.is_job) in
+    let thick : c.unsigned_abs.result ≡ nat_abs c.args.job.now.fields.layer = rw layer at c.unsigned_abs.ensures.value in
+    let top = unit_coordinate c.args.job.now.fields.unit c.args.job.now.fields.top c.args.job.now.is_job.top_ok in
+    let down : to_z w32 (lowering c.args.job.now.fields c.args.number) ≡ pos (lowering c.args.job.now.fields c.args.number) = to_z_pos w32 _ (small_number _ h.small) in
+    rw (thick, top, down) (layer_height_fits c.args.job.now.fields c.args.number c.args.job.now.is_job h)
 
 pub returns : goal.returns
 returns c =
-    let h : IsLowered c.args.job.now c.args.number = is_lowered c.args.job.now c.args.number c.requires.job_ok c.requires.layer_ok c.requires.number_ok in
-    let layer = unit_coordinate c.args.job.now.unit c.args.job.now.layer (layer_within c.args.job.now c.requires.job_ok) in
-    let thick : c.unsigned_abs.result ≡ nat_abs c.args.job.now.layer = rw layer at c.unsigned_abs.ensures.value in
-    let top = unit_coordinate c.args.job.now.unit c.args.job.now.top c.requires.job_ok.top_ok in
-    let down : to_z w32 (lowering c.args.job.now c.args.number) ≡ pos (lowering c.args.job.now c.args.number) = to_z_pos w32 _ (small_number _ h.small) in
-    rw (thick, top, down, to_z-of_z w32 (c.args.job.now.top -ℤ pos (lowering c.args.job.now c.args.number)) (layer_height_fits c.args.job.now c.args.number c.requires.job_ok h))
-    (sym (layer_height_is c.args.job.now c.args.number c.requires.layer_ok c.requires.number_ok))
+    let h : IsLowered c.args.job.now.fields c.args.number = is_lowered c.args.job.now.fields c.args.number c.args.job.now.is_job c.requires.layer_ok c.requires.number_ok in
+    let layer = unit_coordinate c.args.job.now.fields.unit c.args.job.now.fields.layer (layer_within c.args.job.now.fields c.args.job.now.is_job) in
+    let thick : c.unsigned_abs.result ≡ nat_abs c.args.job.now.fields.layer = rw layer at c.unsigned_abs.ensures.value in
+    let top = unit_coordinate c.args.job.now.fields.unit c.args.job.now.fields.top c.args.job.now.is_job.top_ok in
+    let down : to_z w32 (lowering c.args.job.now.fields c.args.number) ≡ pos (lowering c.args.job.now.fields c.args.number) = to_z_pos w32 _ (small_number _ h.small) in
+    rw (thick, top, down, to_z-of_z w32 (c.args.job.now.fields.top -ℤ pos (lowering c.args.job.now.fields c.args.number)) (layer_height_fits c.args.job.now.fields c.args.number c.args.job.now.is_job h))
+    (sym (layer_height_is c.args.job.now.fields c.args.number c.requires.layer_ok c.requires.number_ok))

@@ -8,17 +8,16 @@ use Rattle.mill_paths.proofs.Gathered.{made_more}
 use Rattle.mill_paths.proofs.waterlines.waterlines_alone.Goals as goal
 
 pub waterline_at-requires : goal.waterline_at-requires
-waterline_at-requires c =
-    record { job_ok = c.requires.job_ok; cells_ok = c.requires.cells_ok; number_ok = subst (λ zs. c.loop-number.number < length zs) c.as_slice-number-end.ensures.list c.loop-number-test.true }
+waterline_at-requires c = subst (λ zs. c.loop-number.number < length zs) c.as_slice-number-end.ensures.list c.loop-number-test.true
 
 pub loop-number-preserved : goal.loop-number-preserved
 loop-number-preserved c =
     let inside = subst (λ zs. c.loop-number.number < length zs) c.as_slice-number-end.ensures.list c.loop-number-test.true in
-    made_more (λ z outlines. IsWaterline (tool_of c.args.job.now) c.args.part.now z (finish_lattice c.args.job.now) outlines) (λ chains. map seen chains.items) c.args.job.now.levels
+    made_more (λ z outlines. IsWaterline (tool_of c.args.job.now.fields) c.args.part.now z (finish_lattice c.args.job.now.fields) outlines) (λ chains. map seen chains.items) c.args.job.now.fields.levels
     c.loop-number.waterlines.items c.push.new.self.items c.loop-number.number (pos 0) c.in_ok-chains.chains inside c.loop-number.invariant c.in_ok-chains.ensures c.in_ok-push.ensures.items
 
 pub returns : goal.returns
 returns c =
     let end = subst (λ zs. length zs ≤ c.loop-number.number) c.as_slice-number-end.ensures.list c.loop-number-test.false in
-    zip_all (λ z outlines. IsWaterline (tool_of c.args.job.now) c.args.part.now z (finish_lattice c.args.job.now) outlines) c.args.job.now.levels
+    zip_all (λ z outlines. IsWaterline (tool_of c.args.job.now.fields) c.args.part.now z (finish_lattice c.args.job.now.fields) outlines) c.args.job.now.fields.levels
     (map (λ chains. map seen chains.items) c.loop-number.waterlines.items) c.loop-number.number end c.loop-number.invariant

@@ -7,4 +7,4 @@ use Rattle.mill_paths.proofs.waterlines.waterlines_alone.Given as goal
 
 abbrev pub invariant-loop-number : goal.invariant-loop-number
 invariant-loop-number l =
-    AllZip (λ z outlines. IsWaterline (tool_of l.job) l.part z (finish_lattice l.job) outlines) (take l.number l.job.levels) (map (λ chains. map seen chains.items) l.waterlines.items)
+    AllZip (λ z outlines. IsWaterline (tool_of l.job.fields) l.part z (finish_lattice l.job.fields) outlines) (take l.number l.job.fields.levels) (map (λ chains. map seen chains.items) l.waterlines.items)

@@ -8,7 +8,7 @@ use Rattle.mill_plan.proofs.moves.cut.Goals as goal
 
 pub loop-step-init : goal.loop-step-init
 loop-step-init c = record {
-  stock = λ done is. subst (λ (ms : List Move). IsStock c.args.job.now ms c.args.rows.now) (sym (append-nil done)) is;
+  stock = λ done is. subst (λ (ms : List Move). IsStock c.args.job.now.fields ms c.args.rows.now) (sym (append-nil done)) is;
   rows_ok = c.requires.rows_ok;
 }
 
@@ -16,7 +16,7 @@ pub loop-step-preserved : goal.loop-step-preserved
 loop-step-preserved c = record {
   stock = λ done is.
       let before = take c.loop-step.step-index c.args.moves.now in
-      subst (λ (ms : List Move). IsStock c.args.job.now ms c.cut_rows.new.rows)
+      subst (λ (ms : List Move). IsStock c.args.job.now.fields ms c.cut_rows.new.rows)
       (append_assoc done before (_ ∷ []) ∙ ap (λ ms. done ++ ms) (sym (take_more c.args.moves.now c.loop-step.step-index _ c.loop-step-test.true)))
       (c.cut_rows.ensures.stock (done ++ before) (c.loop-step.invariant.stock done is));
   rows_ok = c.cut_rows.ensures.rows_ok;
@@ -24,7 +24,7 @@ loop-step-preserved c = record {
 
 pub returns : goal.returns
 returns c = λ done follow tested.
-    subst (λ (ms : List Move). IsStock c.args.job.now (done ++ ms) c.loop-step.rows) (take_all c.loop-step.step-index c.args.moves.now c.loop-step-test.false)
+    subst (λ (ms : List Move). IsStock c.args.job.now.fields (done ++ ms) c.loop-step.rows) (take_all c.loop-step.step-index c.args.moves.now c.loop-step-test.false)
     (c.loop-step.invariant.stock done (follow tested))
 
 pub cut_rows-requires-clause-step : goal.cut_rows-requires-clause-step

@@ -6,6 +6,6 @@ use Rattle.mill_plan.proofs.moves.cut.Given as goal
 
 abbrev pub invariant-loop-step : goal.invariant-loop-step
 invariant-loop-step l = record {
-  stock : (done : List Move) → IsStock l.job done l.fn.rows → IsStock l.job (done ++ take l.step-index l.moves) l.rows;
-  rows_ok : All (IsRowOf l.job) l.rows;
+  stock : (done : List Move) → IsStock l.job.fields done l.fn.rows → IsStock l.job.fields (done ++ take l.step-index l.moves) l.rows;
+  rows_ok : All (IsRowOf l.job.fields) l.rows;
 }

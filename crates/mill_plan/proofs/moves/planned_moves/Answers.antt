@@ -16,21 +16,21 @@ pub returns-clause-plan : goal.returns-clause-plan
 returns-clause-plan g c =
     let say = rw c.deref.ensures.value at c.in_ok-clear.ensures.say in
     let round = rw (c.deref-2.ensures.value, c.deref-3.ensures.value) at c.round_of.ensures.round in
-    plan_if_made c.args.job.now c.args.part.now c.in_ok-visits.visits.items c.requires.nodes c.in_ok-visits.ensures.list c.round_of.result (round c.args.part.now say) c.round_of.ensures.few
+    plan_if_made c.args.job.now.fields c.args.part.now c.in_ok-visits.visits.items c.requires.nodes c.in_ok-visits.ensures.list c.round_of.result (round c.args.part.now say) c.round_of.ensures.few
 
 pub returns-clause-safe : goal.returns-clause-safe
 returns-clause-safe g c =
-    let job = c.args.job.now in
+    let job = c.args.job.now.fields in
     let part = c.args.part.now in
     let visits = c.in_ok-visits.visits.items in
     let say = rw c.deref.ensures.value at c.in_ok-clear.ensures.say in
     let round = rw (c.deref-2.ensures.value, c.deref-3.ensures.value) at c.round_of.ensures.round in
     IfOk-weaker c.round_of.result (λ moves. IsRound job part visits moves.items) (λ moves. GoSafely job part [] (home job) moves.items (home job))
-    (λ moves made. plan_goes job part visits moves.items c.requires.job_ok c.requires.under c.in_ok-visits.ensures.each made) (round part say)
+    (λ moves made. plan_goes job part visits moves.items c.args.job.now.is_job c.requires.under c.in_ok-visits.ensures.each made) (round part say)
 
 pub returns-clause-fault : goal.returns-clause-fault
 returns-clause-fault g c =
-    let job = c.args.job.now in
+    let job = c.args.job.now.fields in
     let part = c.args.part.now in
     let visits = c.in_ok-visits.visits.items in
     let say = rw c.deref.ensures.value at c.in_ok-clear.ensures.say in

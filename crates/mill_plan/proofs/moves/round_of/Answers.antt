@@ -21,77 +21,77 @@ use Rattle.mill_plan.proofs.moves.round_of.Goals as goal
 pub loop-number-init : goal.loop-number-init
 loop-number-init c = record {
   place = c.home-place.ensures.value;
-  tour = λ part say. rw c.new-moves.ensures.items (tour_nil c.args.job.now part [] (home c.args.job.now));
+  tour = λ part say. rw c.new-moves.ensures.items (tour_nil c.args.job.now.fields part [] (home c.args.job.now.fields));
   stock = λ part say. rw c.new-moves.ensures.items c.requires.rows_ok.stock;
   rows_ok = c.requires.rows_ok.rows_ok;
   in_range = c.home-place.ensures.in_range;
 }
 
 pub link_known-requires-clause-from_ok : goal.link_known-requires-clause-from_ok
-link_known-requires-clause-from_ok c = in_range_of_unit c.args.job.now.unit c.loop-number.place c.loop-number.invariant.in_range
+link_known-requires-clause-from_ok c = in_range_of_unit c.args.job.now.fields.unit c.loop-number.place c.loop-number.invariant.in_range
 
 pub link_known-requires-clause-to_ok : goal.link_known-requires-clause-to_ok
 link_known-requires-clause-to_ok c =
-    in_range_of_unit c.args.job.now.unit _ (All-get_or (λ v. IsInUnitRange c.args.job.now.unit v.at) c.args.visits.now c.loop-number.number _ c.loop-number-test.true c.requires.visits_ok)
+    in_range_of_unit c.args.job.now.fields.unit _ (All-get_or (λ v. IsInUnitRange c.args.job.now.fields.unit v.at) c.args.visits.now c.loop-number.number _ c.loop-number-test.true c.requires.visits_ok)
 
 pub loop-number-preserved : goal.loop-number-preserved
 loop-number-preserved c =
     let so_far = c.loop-number.invariant in
-    let says = λ (part : List Tri) (say : SayClear c.args.job.now part c.args.visits.now c.args.clear.now).
-    says_at c.args.job.now part c.args.visits.now c.args.clear.now c.loop-number.number _ _ c.loop-number.place say c.loop-number-test.true so_far.place in
-    let adds = λ (part : List Tri) (say : SayClear c.args.job.now part c.args.visits.now c.args.clear.now).
+    let says = λ (part : List Tri) (say : SayClear c.args.job.now.fields part c.args.visits.now c.args.clear.now).
+    says_at c.args.job.now.fields part c.args.visits.now c.args.clear.now c.loop-number.number _ _ c.loop-number.place say c.loop-number-test.true so_far.place in
+    let adds = λ (part : List Tri) (say : SayClear c.args.job.now.fields part c.args.visits.now c.args.clear.now).
     c.in_ok-link_known.ensures.ok part c.loop-number.moves.items (says part say) (so_far.stock part say) in
     record {
-      place = place_after c.args.job.now c.args.visits.now c.loop-number.number _ c.loop-number-test.true;
-      tour = λ part say. tour_more c.args.job.now part c.args.visits.now c.loop-number.number _ c.loop-number.place c.loop-number.moves.items c.link_known.new.out.items
+      place = place_after c.args.job.now.fields c.args.visits.now c.loop-number.number _ c.loop-number-test.true;
+      tour = λ part say. tour_more c.args.job.now.fields part c.args.visits.now c.loop-number.number _ c.loop-number.place c.loop-number.moves.items c.link_known.new.out.items
           c.loop-number-test.true so_far.place (so_far.tour part say) (adds part say);
-      stock = λ part say. stock_more c.args.job.now part c.loop-number.place _ c.loop-number.moves.items c.link_known.new.out.items c.link_known.new.rows (adds part say)
+      stock = λ part say. stock_more c.args.job.now.fields part c.loop-number.place _ c.loop-number.moves.items c.link_known.new.out.items c.link_known.new.rows (adds part say)
           (c.in_ok-link_known.ensures.stock c.loop-number.moves.items (adds part say).moves (so_far.stock part say) (adds part say).joined);
       rows_ok = c.link_known.ensures.rows_ok;
-      in_range = All-get_or (λ v. IsInUnitRange c.args.job.now.unit v.at) c.args.visits.now c.loop-number.number _ c.loop-number-test.true c.requires.visits_ok;
+      in_range = All-get_or (λ v. IsInUnitRange c.args.job.now.fields.unit v.at) c.args.visits.now c.loop-number.number _ c.loop-number-test.true c.requires.visits_ok;
     }
 
 pub returns-in_err-check_moves-clause-fault : goal.returns-in_err-check_moves-clause-fault
 returns-in_err-check_moves-clause-fault c = λ part say.
     let p = err_from_is_err_and c.from_residual-in_err-check_moves.result c.from_residual-in_err-check_moves.ensures.1 in
     let so_far = c.loop-number.invariant in
-    let tour : IsTour c.args.job.now part [] (home c.args.job.now) (take (c.loop-number.number + 1) c.args.visits.now) c.link_known.new.out.items =
-    tour_more c.args.job.now part c.args.visits.now c.loop-number.number _ c.loop-number.place c.loop-number.moves.items c.link_known.new.out.items
+    let tour : IsTour c.args.job.now.fields part [] (home c.args.job.now.fields) (take (c.loop-number.number + 1) c.args.visits.now) c.link_known.new.out.items =
+    tour_more c.args.job.now.fields part c.args.visits.now c.loop-number.number _ c.loop-number.place c.loop-number.moves.items c.link_known.new.out.items
     c.loop-number-test.true so_far.place (so_far.tour part say)
     (c.in_ok-link_known.ensures.ok part c.loop-number.moves.items
-    (says_at c.args.job.now part c.args.visits.now c.args.clear.now c.loop-number.number _ _ c.loop-number.place say c.loop-number-test.true so_far.place) (so_far.stock part say)) in
+    (says_at c.args.job.now.fields part c.args.visits.now c.args.clear.now c.loop-number.number _ _ c.loop-number.place say c.loop-number-test.true so_far.place) (so_far.stock part say)) in
     let many : MAX_MOVES < length c.link_known.new.out.items = rw c.deref.ensures.value at c.in_err-check_moves.ensures.many in
     rw (p.1, p.2, c.in_err-check_moves.ensures.fault)
-    (inl (over_at c.args.job.now part c.args.visits.now c.loop-number.number c.link_known.new.out.items tour many))
+    (inl (over_at c.args.job.now.fields part c.args.visits.now c.loop-number.number c.link_known.new.out.items tour many))
 
 pub returns-in_err-check_moves-2-clause-fault : goal.returns-in_err-check_moves-2-clause-fault
 returns-in_err-check_moves-2-clause-fault c = λ part say.
     let p = err_from_is_err_and c.from_residual-in_err-check_moves-2.result c.from_residual-in_err-check_moves-2.ensures.1 in
     let so_far = c.loop-number.invariant in
-    let round : IsRound c.args.job.now part c.args.visits.now c.home.new.out.items =
-    round_made c.args.job.now part c.args.visits.now c.loop-number.number c.loop-number.place c.loop-number.moves.items c.home.new.out.items c.loop-number-test.false
+    let round : IsRound c.args.job.now.fields part c.args.visits.now c.home.new.out.items =
+    round_made c.args.job.now.fields part c.args.visits.now c.loop-number.number c.loop-number.place c.loop-number.moves.items c.home.new.out.items c.loop-number-test.false
     so_far.place (so_far.tour part say) c.in_ok-home.ensures.ok in
     let many : MAX_MOVES < length c.home.new.out.items = rw c.deref-2.ensures.value at c.in_err-check_moves-2.ensures.many in
-    rw (p.1, p.2, c.in_err-check_moves-2.ensures.fault) (inr (long_round c.args.job.now part c.args.visits.now c.home.new.out.items round many))
+    rw (p.1, p.2, c.in_err-check_moves-2.ensures.fault) (inr (long_round c.args.job.now.fields part c.args.visits.now c.home.new.out.items round many))
 
 pub returns-clause-round : goal.returns-clause-round
 returns-clause-round c = λ part say.
     let so_far = c.loop-number.invariant in
-    round_made c.args.job.now part c.args.visits.now c.loop-number.number c.loop-number.place c.loop-number.moves.items c.home.new.out.items c.loop-number-test.false
+    round_made c.args.job.now.fields part c.args.visits.now c.loop-number.number c.loop-number.place c.loop-number.moves.items c.home.new.out.items c.loop-number-test.false
     so_far.place (so_far.tour part say) c.in_ok-home.ensures.ok
 
 pub cut-requires-clause-moves_ok : goal.cut-requires-clause-moves_ok
 cut-requires-clause-moves_ok c =
-    let way = way_home c.args.job.now c.loop-number.place in
+    let way = way_home c.args.job.now.fields c.loop-number.place in
     subst MovesInRange
     (sym (past_old c.loop-number.moves.items way c.deref-3.result.now c.len-first.result (c.len-first.ensures ∙ c.loop-number.moves.ok.0) (c.deref-3.ensures.value ∙ c.in_ok-home.ensures.ok)))
-    (way_home_ranged c.args.job.now c.loop-number.place c.requires.job_ok (in_range_of_unit c.args.job.now.unit c.loop-number.place c.loop-number.invariant.in_range)
-    (subst IsInRange c.home-place.ensures.value (in_range_of_unit c.args.job.now.unit c.home-place.result c.home-place.ensures.in_range)))
+    (way_home_ranged c.args.job.now.fields c.loop-number.place c.args.job.now.is_job (in_range_of_unit c.args.job.now.fields.unit c.loop-number.place c.loop-number.invariant.in_range)
+    (subst IsInRange c.home-place.ensures.value (in_range_of_unit c.args.job.now.fields.unit c.home-place.result c.home-place.ensures.in_range)))
 
 pub returns-clause-stock : goal.returns-clause-stock
 returns-clause-stock c = λ part say tested.
-    let way = way_home c.args.job.now c.loop-number.place in
-    subst (λ (ms : List Move). IsStock c.args.job.now ms c.cut.new.rows)
+    let way = way_home c.args.job.now.fields c.loop-number.place in
+    subst (λ (ms : List Move). IsStock c.args.job.now.fields ms c.cut.new.rows)
     (ap (λ ms. c.loop-number.moves.items ++ ms)
     (past_old c.loop-number.moves.items way c.deref-3.result.now c.len-first.result (c.len-first.ensures ∙ c.loop-number.moves.ok.0) (c.deref-3.ensures.value ∙ c.in_ok-home.ensures.ok))
     ∙ sym c.in_ok-home.ensures.ok)

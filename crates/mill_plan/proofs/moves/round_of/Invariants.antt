@@ -10,9 +10,9 @@ use Rattle.mill_plan.proofs.moves.round_of.Given as goal
 
 abbrev pub invariant-loop-number : goal.invariant-loop-number
 invariant-loop-number l = record {
-  place : l.place ≡ place_before l.job l.visits l.number;
-  tour : (part : List Tri) → SayClear l.job part l.visits l.clear → IsTour l.job part [] (home l.job) (take l.number l.visits) l.moves.items;
-  stock : (part : List Tri) → SayClear l.job part l.visits l.clear → FollowStock l.job l.moves.items l.rows;
-  rows_ok : All (IsRowOf l.job) l.rows;
-  in_range : IsInUnitRange l.job.unit l.place;
+  place : l.place ≡ place_before l.job.fields l.visits l.number;
+  tour : (part : List Tri) → SayClear l.job.fields part l.visits l.clear → IsTour l.job.fields part [] (home l.job.fields) (take l.number l.visits) l.moves.items;
+  stock : (part : List Tri) → SayClear l.job.fields part l.visits l.clear → FollowStock l.job.fields l.moves.items l.rows;
+  rows_ok : All (IsRowOf l.job.fields) l.rows;
+  in_range : IsInUnitRange l.job.fields.unit l.place;
 }

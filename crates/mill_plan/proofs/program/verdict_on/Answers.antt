@@ -4,17 +4,17 @@ use Rattle.mill_plan.proofs.Good.{follow, good, in_range}
 use Rattle.mill_plan.proofs.program.verdict_on.Goals as goal
 
 pub verify-requires-clause-moves_ok : goal.verify-requires-clause-moves_ok
-verify-requires-clause-moves_ok g c = moves_of_unit c.args.job.now.unit _ (in_range c.args.job.now c.args.part.now (home c.args.job.now) (home c.args.job.now) c.args.moves.now c.requires.safe)
+verify-requires-clause-moves_ok g c = moves_of_unit c.args.job.now.fields.unit _ (in_range c.args.job.now.fields c.args.part.now (home c.args.job.now.fields) (home c.args.job.now.fields) c.args.moves.now c.requires.safe)
 
 pub verify-requires-clause-follow : goal.verify-requires-clause-follow
-verify-requires-clause-follow g c = follow c.args.job.now c.args.part.now (home c.args.job.now) (home c.args.job.now) c.args.moves.now c.requires.safe
+verify-requires-clause-follow g c = follow c.args.job.now.fields c.args.part.now (home c.args.job.now.fields) (home c.args.job.now.fields) c.args.moves.now c.requires.safe
 
 pub verdict_on_stock-requires-clause-moves_ok : goal.verdict_on_stock-requires-clause-moves_ok
-verdict_on_stock-requires-clause-moves_ok g c = moves_of_unit c.args.job.now.unit _ (in_range c.args.job.now c.args.part.now (home c.args.job.now) (home c.args.job.now) c.args.moves.now c.requires.safe)
+verdict_on_stock-requires-clause-moves_ok g c = moves_of_unit c.args.job.now.fields.unit _ (in_range c.args.job.now.fields c.args.part.now (home c.args.job.now.fields) (home c.args.job.now.fields) c.args.moves.now c.requires.safe)
 
 pub verdict_on_stock-requires-clause-good : goal.verdict_on_stock-requires-clause-good
 verdict_on_stock-requires-clause-good g c =
-    good c.args.job.now c.args.part.now (home c.args.job.now) (home c.args.job.now) c.args.moves.now
+    good c.args.job.now.fields c.args.part.now (home c.args.job.now.fields) (home c.args.job.now.fields) c.args.moves.now
     (c.is_decided_by_stock.ensures.bare c.if-is_decided_by_stock.true) c.requires.safe
 
 pub verdict_on_stock-requires-clause-rows_ok : goal.verdict_on_stock-requires-clause-rows_ok

@@ -9,26 +9,26 @@ use Rattle.mill_plan.proofs.program.verified.Goals as goal
 
 pub unreachable-requires : goal.unreachable-requires
 unreachable-requires g c =
-    no_other c.args.job.now c.args.part.now c.args.moves.now c.in-Reject.reason c.requires.safe
-    (subst (λ (v : Verdict). IsVerdict c.args.job.now c.args.part.now c.args.moves.now v) c.in-Reject.is c.in_ok-count.ensures.verdict) c.in_default.not-Left c.in_default.not-HolderStock
+    no_other c.args.job.now.fields c.args.part.now c.args.moves.now c.in-Reject.reason c.requires.safe
+    (subst (λ (v : Verdict). IsVerdict c.args.job.now.fields c.args.part.now c.args.moves.now v) c.in-Reject.is c.in_ok-count.ensures.verdict) c.in_default.not-Left c.in_default.not-HolderStock
 
 pub returns-in_ok-program-in-Accept-clause-planned : goal.returns-in_ok-program-in-Accept-clause-planned
 returns-in_ok-program-in-Accept-clause-planned g c =
     let left : to_z w32 (of_z w32 c.in-Accept.most_left) ≡ c.in-Accept.most_left = to_z-of_z w32 c.in-Accept.most_left (search rules) in
     rw left
-    (done_told c.args.job.now c.args.part.now c.args.moves.now c.requires.plan_ok c.in_ok-program-in-Accept.program.items c.in-Accept.count c.in-Accept.columns c.in-Accept.most_left
+    (done_told c.args.job.now.fields c.args.part.now c.args.moves.now c.requires.plan_ok c.in_ok-program-in-Accept.program.items c.in-Accept.count c.in-Accept.columns c.in-Accept.most_left
     c.requires.safe c.in_ok-program-in-Accept.ensures.text c.in_ok-program-in-Accept.ensures.reads
-    (subst (λ (v : Verdict). IsVerdict c.args.job.now c.args.part.now c.args.moves.now v) c.in-Accept.is c.in_ok-count.ensures.verdict)
+    (subst (λ (v : Verdict). IsVerdict c.args.job.now.fields c.args.part.now c.args.moves.now v) c.in-Accept.is c.in_ok-count.ensures.verdict)
     (c.verdict_on.ensures.safe c.in-Accept.count c.in-Accept.columns c.in-Accept.most_left (c.in_ok-count.was ∙ ap (λ (v : Verdict). Ok v) c.in-Accept.is)))
 
 pub returns-in-Left-clause-fault : goal.returns-in-Left-clause-fault
 returns-in-Left-clause-fault g c =
     let top : to_z w32 (of_z w32 c.in-Left.top) ≡ c.in-Left.top = to_z-of_z w32 c.in-Left.top (search rules) in
     rw top
-    (uncut_told c.args.job.now c.args.part.now c.args.moves.now c.requires.plan_ok c.in-Left.row c.in-Left.col c.in-Left.top c.requires.job_ok
-    (subst (λ (v : Verdict). IsVerdict c.args.job.now c.args.part.now c.args.moves.now v) (c.in-Reject.is ∙ ap (λ (r : Reason). Reject r) c.in-Left.is) c.in_ok-count.ensures.verdict))
+    (uncut_told c.args.job.now.fields c.args.part.now c.args.moves.now c.requires.plan_ok c.in-Left.row c.in-Left.col c.in-Left.top c.args.job.now.is_job
+    (subst (λ (v : Verdict). IsVerdict c.args.job.now.fields c.args.part.now c.args.moves.now v) (c.in-Reject.is ∙ ap (λ (r : Reason). Reject r) c.in-Left.is) c.in_ok-count.ensures.verdict))
 
 pub returns-in-HolderStock-clause-fault : goal.returns-in-HolderStock-clause-fault
 returns-in-HolderStock-clause-fault g c =
-    held_told c.args.job.now c.args.part.now c.args.moves.now c.requires.plan_ok c.in-HolderStock.at c.in-HolderStock.row c.in-HolderStock.col c.in-HolderStock.leaf
-    (subst (λ (v : Verdict). IsVerdict c.args.job.now c.args.part.now c.args.moves.now v) (c.in-Reject.is ∙ ap (λ (r : Reason). Reject r) c.in-HolderStock.is) c.in_ok-count.ensures.verdict)
+    held_told c.args.job.now.fields c.args.part.now c.args.moves.now c.requires.plan_ok c.in-HolderStock.at c.in-HolderStock.row c.in-HolderStock.col c.in-HolderStock.leaf
+    (subst (λ (v : Verdict). IsVerdict c.args.job.now.fields c.args.part.now c.args.moves.now v) (c.in-Reject.is ∙ ap (λ (r : Reason). Reject r) c.in-HolderStock.is) c.in_ok-count.ensures.verdict)

@@ -1,6 +1,6 @@
 use Rattle.std.proofs.Common.{rules}
 use Rattle.mill_push.proofs.Growing.{hull_is}
-use Rattle.mill_extent.proofs.Stored.{least_stored, most_stored}
+use Rattle.mill_geom.proofs.Stored.{least_stored, most_stored}
 use Rattle.mill_push.proofs.known.hull.Goals as goal
 
 pub returns : goal.returns

@@ -10,7 +10,7 @@ pub returns-then-is_over_all-clause-stretches : goal.returns-then-is_over_all-cl
 returns-then-is_over_all-clause-stretches g c =
     let fiber = lifted c.args.holder c.args.fiber in
     let z = to_z-of_z w32 c.lift-fiber.result.z (search rules) in
-    let under = rw (z, c.lift-fiber.ensures) at c.is_over_all.ensures.yes c.if-is_over_all.true in
+    let under = rw (z, c.lift-fiber.ensures, c.part.ensures) at c.is_over_all.ensures.yes c.if-is_over_all.true in
     rw c.new.ensures.items (stretches_over (solid_of c.args.holder) c.args.part.now fiber c.args.from c.args.to c.requires.holder_ok.radius under)
 
 pub returns-then-is_over_all-clause-cost : goal.returns-then-is_over_all-clause-cost

@@ -7,6 +7,6 @@ use Rattle.mill_report.proofs.left.add_row.Given as goal
 
 abbrev pub invariant-loop-col : goal.invariant-loop-col
 invariant-loop-col l = record {
-  few : l.left.total ≤ column_number l.job l.number l.col;
-  more : (stock : Stock) → ShowsStock l.job stock l.rows → IsLeftTo l.job l.part stock (column_number l.job l.number 0) l.fn.left → IsLeftTo l.job l.part stock (column_number l.job l.number l.col) l.left;
+  few : l.left.total ≤ column_number l.job.fields l.number l.col;
+  more : (stock : Stock) → ShowsStock l.job.fields stock l.rows → IsLeftTo l.job.fields l.part stock (column_number l.job.fields l.number 0) l.fn.left → IsLeftTo l.job.fields l.part stock (column_number l.job.fields l.number l.col) l.left;
 }

@@ -10,5 +10,5 @@ loop-number-preserved c = record {
 
 pub returns : goal.returns
 returns c = λ stock shows.
-    left_all c.args.job.now c.args.part.now stock c.loop-number.number c.loop-number.left
+    left_all c.args.job.now.fields c.args.part.now stock c.loop-number.number c.loop-number.left
     (omega (arith, c.loop-number-test.false, c.loop-number.auto.number-end, c.rows-number-end.ensures.value)) (c.loop-number.invariant.more stock shows)

@@ -7,6 +7,6 @@ use Rattle.mill_report.proofs.left.columns_left.Given as goal
 
 abbrev pub invariant-loop-number : goal.invariant-loop-number
 invariant-loop-number l = record {
-  few : l.left.total ≤ column_number l.job l.number 0;
-  more : (stock : Stock) → ShowsStock l.job stock l.rows → IsLeftTo l.job l.part stock (column_number l.job l.number 0) l.left;
+  few : l.left.total ≤ column_number l.job.fields l.number 0;
+  more : (stock : Stock) → ShowsStock l.job.fields stock l.rows → IsLeftTo l.job.fields l.part stock (column_number l.job.fields l.number 0) l.left;
 }

@@ -12,6 +12,6 @@ returns-clause-told c =
     let stops = c.in_ok-stops.stops in
     let new = c.rows_through.new.stops in
     let same = ap (λ (b : Banded). b.moves) c.in_ok-bands.ensures in
-    let told = all_told c.args.job.now c.args.moves.now new (subst (λ (ms : List Move). AreToldBy c.args.job.now ms (row_count c.args.job.now) new) same c.in_ok-rows.ensures.told) in
+    let told = all_told c.args.job.now.fields c.args.moves.now new (subst (λ (ms : List Move). AreToldBy c.args.job.now.fields ms (row_count c.args.job.now.fields) new) same c.in_ok-rows.ensures.told) in
     let count : stops.len ≡ length new = omega (arith, stops.ok, told.count, ap length c.in_ok-stops.ensures) in
-    subst (AreTold c.args.job.now c.args.moves.now) (sym (all_written stops.len new stops.items count)) told
+    subst (AreTold c.args.job.now.fields c.args.moves.now) (sym (all_written stops.len new stops.items count)) told

@@ -6,8 +6,8 @@ use Rattle.mill_report_run.proofs.Telling.{outcome_shows, same_store}
 use Rattle.mill_report_run.proofs.ending.end.Goals as goal
 use Rattle.mill_report_run.specs.Headline.{Completes, Headline, Untaken}
 use Rattle.mill_report_run.specs.Outcomes.{HasOutcome, Shows, failed}
-use Rattle.mill_run.proofs.ExitCodes.{ended_as}
-use Rattle.mill_run.specs.Calls.{BlamesFaults, Call, call_of}
+use Rattle.mill_answer.proofs.ExitCodes.{ended_as}
+use Rattle.mill_answer.specs.Calls.{BlamesFaults, Call, call_of}
 
 pub returns-in-Ok-clause-outcome : goal.returns-in-Ok-clause-outcome
 returns-in-Ok-clause-outcome g c =

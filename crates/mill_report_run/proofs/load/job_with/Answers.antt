@@ -7,7 +7,7 @@ pub returns-in-Ok-clause-told : goal.returns-in-Ok-clause-told
 returns-in-Ok-clause-told c = λ told same. same
 
 pub returns-in-Ok-clause-ready : goal.returns-in-Ok-clause-ready
-returns-in-Ok-clause-ready c = record { job_ok = c.in-Ok.ensures.in_range; is = rw c.text.ensures at c.in-Ok.ensures.told }
+returns-in-Ok-clause-ready c = rw c.text.ensures at c.in-Ok.ensures.told
 
 pub returns-in-Err-clause-told : goal.returns-in-Err-clause-told
 returns-in-Err-clause-told c = λ told same.

@@ -12,5 +12,5 @@ returns-in-Ok-clause-ready c = joined_holds c.args.before c.args.part _ c.requir
 
 pub returns-in-Err-clause-told : goal.returns-in-Err-clause-told
 returns-in-Err-clause-told c = λ (told : Option (List ℕ)) same.
-    joined_under c.args.before.job told c.args.part (Err c.in-Err.fault)
-    (if_told (λ (text : List ℕ). IsPartText c.args.before.job text c.args.part) told c.args.source same c.requires.part_is) c.in-Err.ensures.told
+    joined_under c.args.before.job.fields told c.args.part (Err c.in-Err.fault)
+    (if_told (λ (text : List ℕ). IsPartText c.args.before.job.fields text c.args.part) told c.args.source same c.requires.part_is) c.in-Err.ensures.told

@@ -2,7 +2,7 @@ use Rattle.mill_io.proofs.Held.{in_parts}
 use Rattle.mill_report_run.proofs.Loading.{both_read, fault_on, loads_with, no_moves, no_program_text, no_setup, of_three, program_of_three}
 use Rattle.mill_load.proofs.Reading.{loads_on, none_failed}
 use Rattle.mill_report_run.proofs.load.load.Goals as goal
-use Rattle.mill_run.specs.Verify.{Texts as ToldTexts, texts_of}
+use Rattle.mill_answer.specs.Verify.{Texts as ToldTexts, texts_of}
 
 pub returns-in-Err-clause-told : goal.returns-in-Err-clause-told
 returns-in-Err-clause-told g c = λ contents held.
@@ -34,8 +34,8 @@ returns-in-Err-read_source-clause-told g c = λ contents held.
     let setup = c.in-Ok.read.setup in
     let fault = c.in-Err-read_source.fault in
     let parts = in_parts contents start.contents between.contents _ _ _ c.in-Ok.ensures.store.held c.in-Err-read_source.ensures.store.held held in
-    no_moves told setup.job setup.part fault (both_read told c.in-Ok.read (c.in-Ok.ensures.told contents parts.first) c.in-Ok.ensures.ready)
-    (no_program_text setup.job told.program fault (c.in-Err-read_source.ensures.told contents parts.next))
+    no_moves told setup.job.fields setup.part fault (both_read told c.in-Ok.read (c.in-Ok.ensures.told contents parts.first) c.in-Ok.ensures.ready)
+    (no_program_text setup.job.fields told.program fault (c.in-Err-read_source.ensures.told contents parts.next))
 
 pub returns-in-Err-read_source-clause-of_three : goal.returns-in-Err-read_source-clause-of_three
 returns-in-Err-read_source-clause-of_three g c =

@@ -10,7 +10,7 @@ returns-in-Ok-clause-store g c = loads_with _ _ _ c.part_with.result c.in-Ok.ens
 
 pub returns-in-Err-clause-told : goal.returns-in-Err-clause-told
 returns-in-Err-clause-told g c = λ contents held.
-    part_under c.args.before.job (contents c.args.name.now) c.in-Err.fault (no_part_text c.args.before.job (contents c.args.name.now) c.in-Err.fault (c.in-Err.ensures.told contents held))
+    part_under c.args.before.job.fields (contents c.args.name.now) c.in-Err.fault (no_part_text c.args.before.job.fields (contents c.args.name.now) c.in-Err.fault (c.in-Err.ensures.told contents held))
 
 pub returns-in-Ok-clause-failed : goal.returns-in-Ok-clause-failed
 returns-in-Ok-clause-failed g c = λ names same. none_failed names _ c.part_with.result c.part_with.ensures.cause

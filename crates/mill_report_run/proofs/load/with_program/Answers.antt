@@ -14,13 +14,12 @@ pub returns-in-Ok-clause-ready : goal.returns-in-Ok-clause-ready
 returns-in-Ok-clause-ready c =
     let setup = c.requires.ready in
     record {
-      job_ok = setup.setup_ok.job_ok;
       moves_ok = c.in-Ok.ensures.ready;
-      read = record { job_is = setup.job_is; part_is = setup.part_is; under = setup.setup_ok.under; moves_are = rw c.text.ensures at c.in-Ok.ensures.told };
+      read = record { job_is = setup.job_is; part_is = setup.part_is; under = setup.under; moves_are = rw c.text.ensures at c.in-Ok.ensures.told };
     }
 
 pub returns-in-Err-clause-told : goal.returns-in-Err-clause-told
 returns-in-Err-clause-told c = λ told agree same.
-    no_moves told c.args.before.setup.job c.args.before.setup.part c.in-Err.fault (both_read told c.args.before agree c.requires.ready)
-    (no_text_moves c.args.before.setup.job told.program c.args.source c.in-Err.fault same
-    (subst (λ (text : List ℕ). (let r : Result (Vec Move) LoadFault = Err c.in-Err.fault in LoadsProgram c.args.before.setup.job (Some text) ProgramFile r)) c.text.ensures c.in-Err.ensures.told))
+    no_moves told c.args.before.setup.job.fields c.args.before.setup.part c.in-Err.fault (both_read told c.args.before agree c.requires.ready)
+    (no_text_moves c.args.before.setup.job.fields told.program c.args.source c.in-Err.fault same
+    (subst (λ (text : List ℕ). (let r : Result (Vec Move) LoadFault = Err c.in-Err.fault in LoadsProgram c.args.before.setup.job.fields (Some text) ProgramFile r)) c.text.ensures c.in-Err.ensures.told))

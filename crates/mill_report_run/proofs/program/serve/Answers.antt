@@ -3,7 +3,7 @@ use Rattle.mill_report_run.specs.Outcomes.{name_in}
 use Rattle.mill_report_run.specs.Words.{request_of}
 use Rattle.mill_report_run.proofs.Telling.{fault_serves, report_serves}
 use Rattle.mill_report_run.proofs.program.serve.Goals as goal
-use Rattle.mill_run.specs.Calls.{Call, call_of}
+use Rattle.mill_answer.specs.Calls.{Call, call_of}
 
 pub returns-in-Ok : goal.returns-in-Ok
 returns-in-Ok g c =

@@ -1,5 +1,5 @@
 use Rattle.std.proofs.Common.{inl}
-use Rattle.mill_load.specs.Statuses.{status_code}
+use Rattle.mill_answer.specs.Statuses.{status_code}
 use Rattle.mill_report_run.proofs.tell.tell_report.Goals as goal
 
 pub report-requires-clause-read : goal.report-requires-clause-read

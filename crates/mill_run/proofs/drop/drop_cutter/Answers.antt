@@ -3,11 +3,11 @@ use Rattle.std.specs.Prelude.{Ok, Err}
 use Rattle.mill_command.specs.Requests.{Request, drop}
 use Rattle.mill_io.proofs.Held.{in_parts}
 use Rattle.mill_job.specs.Tables.{IsPlace}
-use Rattle.mill_job.specs.declared.job.Job.{Job}
+use Rattle.mill_job.specs.declared.fields.JobFields.{JobFields}
 use Rattle.mill_load.specs.declared.load.LoadFault.{LoadFault}
 use Rattle.mill_load.specs.declared.load.Setup.{Setup}
 use Rattle.mill_run.specs.Answers.{refused_word}
-use Rattle.mill_run.specs.Calls.{Call, call_of}
+use Rattle.mill_answer.specs.Calls.{Call, call_of}
 use Rattle.mill_run.specs.Drop.{HasPlace}
 use Rattle.mill_run.specs.Outcomes.{file_name}
 use Rattle.mill_load.specs.Setup.{setup_texts}
@@ -40,7 +40,7 @@ pub tell_drop-requires-clause-place_ok : goal.tell_drop-requires-clause-place_ok
 tell_drop-requires-clause-place_ok g c =
     let under = c.in-Ok-load_under.ensures in
     let same = (under.told (g.S.Shelf.shows c.load_job.new.shelf).contents under.store.held).0 in
-    subst (λ (j : Job). IsPlace j.unit c.in-Ok-read_place.place) (sym same) c.in-Ok-read_place.ensures.in_range
+    subst (λ (j : JobFields). IsPlace j.unit c.in-Ok-read_place.place) (sym same) c.in-Ok-read_place.ensures.in_range
 
 pub returns-in-Ok-load_under : goal.returns-in-Ok-load_under
 returns-in-Ok-load_under g c =
@@ -50,11 +50,11 @@ returns-in-Ok-load_under g c =
     let r : Result Setup LoadFault = Ok c.in-Ok-load_under.setup in
     let first = c.in-Ok.ensures.store in
     let next = c.in-Ok-load_under.ensures.store in
-    height_serves c.args.job.now c.args.part.now c.args.x.now c.args.y.now call c.in-Ok.job c.in-Ok-read_place.place c.in-Ok-load_under.setup c.in-Ok-read_place.ensures.told
+    height_serves c.args.job.now c.args.part.now c.args.x.now c.args.y.now call c.in-Ok.job.fields c.in-Ok-read_place.place c.in-Ok-load_under.setup c.in-Ok-read_place.ensures.told
     (c.in-Ok-load_under.ensures.told between.contents next.held).0
     (λ contents held.
     let parts = in_parts contents start.contents between.contents _ _ _ first.held next.held held in
-    under_loads (setup_texts contents c.args.job.now c.args.part.now) c.in-Ok.job r (c.in-Ok.ensures.told contents parts.first) (c.in-Ok-load_under.ensures.told contents parts.next))
+    under_loads (setup_texts contents c.args.job.now c.args.part.now) c.in-Ok.job.fields r (c.in-Ok.ensures.told contents parts.first) (c.in-Ok-load_under.ensures.told contents parts.next))
     (loads_on _ _ _ c.in-Ok.job r first next) c.tell_drop.ensures
 
 pub returns-in-Err-load_under : goal.returns-in-Err-load_under
@@ -75,8 +75,8 @@ returns-in-Err-load_under g c =
     (λ contents held.
     let parts = in_parts contents start.contents between.contents _ _ _ first.held next.held held in
     let read = c.in-Ok.ensures.told contents parts.first in
-    let place : HasPlace (setup_texts contents job part) x y = record { job = c.in-Ok.job; place = c.in-Ok-read_place.place; job_is = read; place_is = c.in-Ok-read_place.ensures.told } in
+    let place : HasPlace (setup_texts contents job part) x y = record { job = c.in-Ok.job.fields; place = c.in-Ok-read_place.place; job_is = read; place_is = c.in-Ok-read_place.ensures.told } in
     drop_fault contents job part x y f
-    (part_fault_with (HasPlace (setup_texts contents job part) x y) (setup_texts contents job part) c.in-Ok.job f place read (c.in-Err-load_under.ensures.told contents parts.next)))
+    (part_fault_with (HasPlace (setup_texts contents job part) x y) (setup_texts contents job part) c.in-Ok.job.fields f place read (c.in-Err-load_under.ensures.told contents parts.next)))
     (λ contents held. fails_named contents asked call.store_after.log f (λ file failed. failed) (c.in-Err-load_under.ensures.failed (file_name asked) refl))
     c.requires (loads_on _ _ _ c.in-Ok.job r first next) c.tell_fault-in-Err-load_under.ensures

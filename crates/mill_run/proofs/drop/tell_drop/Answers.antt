@@ -11,13 +11,13 @@ pub returns : goal.returns
 returns g c =
     let x_fits : FitsSigned w32 c.args.place.x = search rules in
     let y_fits : FitsSigned w32 c.args.place.y = search rules in
-    let floor_fits : FitsSigned w32 c.args.setup.now.job.floor = search rules in
+    let floor_fits : FitsSigned w32 c.args.setup.now.job.fields.floor = search rules in
     let height_fits : FitsSigned w32 c.drop_once-height.result = search rules in
-    let least : IsDropHeight (tool_of c.args.setup.now.job) c.args.setup.now.part c.args.place.x c.args.place.y c.args.setup.now.job.floor c.drop_once-height.result =
+    let least : IsDropHeight (tool_of c.args.setup.now.job.fields) c.args.setup.now.part c.args.place.x c.args.place.y c.args.setup.now.job.fields.floor c.drop_once-height.result =
     simp (to_z-of_z, c.tool-tool.ensures) at c.drop_once-height.ensures.drop in
-    let line : IfOk c.line_of_height.result (λ line. line.items ≡ answer_line (dropped c.args.setup.now.job.unit c.drop_once-height.result)) = simp to_z-of_z at c.line_of_height.ensures in
+    let line : IfOk c.line_of_height.result (λ line. line.items ≡ answer_line (dropped c.args.setup.now.job.fields.unit c.drop_once-height.result)) = simp to_z-of_z at c.line_of_height.ensures in
     record {
       height = c.drop_once-height.result;
       is = least;
-      printed = made_prints c.line_of_height.result (dropped c.args.setup.now.job.unit c.drop_once-height.result) _ _ _ _ refl line c.tell_made.ensures;
+      printed = made_prints c.line_of_height.result (dropped c.args.setup.now.job.fields.unit c.drop_once-height.result) _ _ _ _ refl line c.tell_made.ensures;
     }

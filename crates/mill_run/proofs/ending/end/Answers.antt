@@ -1,10 +1,10 @@
 use Rattle.std.proofs.Common.{map, refl, string_bytes}
 use Rattle.mill_io.proofs.Held.{held_none}
-use Rattle.mill_run.specs.Calls.{BlamesFaults, Call, call_of}
-use Rattle.mill_run.specs.Headline.{Answers, Completes, Headlines, Untaken}
+use Rattle.mill_answer.specs.Calls.{BlamesFaults, Call, call_of}
+use Rattle.mill_run.specs.Headline.{Headlines, Replies}
 use Rattle.mill_run.specs.Outcomes.{HasOutcome, Shows, no_memory}
 use Rattle.mill_run.proofs.Blaming.{blames_reads, blames_writes}
-use Rattle.mill_run.proofs.ExitCodes.{ended_as}
+use Rattle.mill_answer.proofs.ExitCodes.{ended_as}
 use Rattle.mill_run.proofs.Serving.{same_store}
 use Rattle.mill_run.proofs.Storing.{short_shows}
 use Rattle.mill_run.proofs.ending.end.Goals as goal
@@ -26,17 +26,15 @@ pub returns-in-Ok-clause-outcome : goal.returns-in-Ok-clause-outcome
 returns-in-Ok-clause-outcome g c =
     rw c.in-Ok.is (ended_as (λ (call : Call). HasOutcome (map string_bytes c.in-Ok.words.items) call) c.run.result c.exit_code_of.result _ _ _ _ c.exit_code_of.ensures (rw c.deref.ensures.value at c.run.ensures.outcome))
 
-pub returns-in-Ok-clause-answers : goal.returns-in-Ok-clause-answers
-returns-in-Ok-clause-answers g c =
-    rw c.in-Ok.is (ended_as (λ (call : Call). Answers (map string_bytes c.in-Ok.words.items) call) c.run.result c.exit_code_of.result _ _ _ _ c.exit_code_of.ensures (rw c.deref.ensures.value at c.run.ensures.answers))
-
-pub returns-in-Ok-clause-completes : goal.returns-in-Ok-clause-completes
-returns-in-Ok-clause-completes g c =
-    rw c.in-Ok.is (ended_as (λ (call : Call). Completes (map string_bytes c.in-Ok.words.items) call) c.run.result c.exit_code_of.result _ _ _ _ c.exit_code_of.ensures (rw c.deref.ensures.value at c.run.ensures.completes))
-
-pub returns-in-Ok-clause-untaken : goal.returns-in-Ok-clause-untaken
-returns-in-Ok-clause-untaken g c =
-    rw c.in-Ok.is (ended_as (λ (call : Call). Untaken (map string_bytes c.in-Ok.words.items) call) c.run.result c.exit_code_of.result _ _ _ _ c.exit_code_of.ensures (rw c.deref.ensures.value at c.run.ensures.untaken))
+pub returns-in-Ok-clause-replies : goal.returns-in-Ok-clause-replies
+returns-in-Ok-clause-replies g c =
+    let ended : Replies (map string_bytes c.in-Ok.words.items) (call_of c.run.result (g.S.Shelf.shows c.args.shelf.now) (g.S.Shelf.shows c.run.new.shelf) (g.O.Sink.shows c.args.out.now) (g.O.Sink.shows c.run.new.out)) =
+    record {
+      answers = rw c.deref.ensures.value at c.run.ensures.answers;
+      completes = rw c.deref.ensures.value at c.run.ensures.completes;
+      untaken = rw c.deref.ensures.value at c.run.ensures.untaken;
+    } in
+    rw c.in-Ok.is (ended_as (λ (call : Call). Replies (map string_bytes c.in-Ok.words.items) call) c.run.result c.exit_code_of.result _ _ _ _ c.exit_code_of.ensures ended)
 
 pub returns-in-Ok-clause-headlines : goal.returns-in-Ok-clause-headlines
 returns-in-Ok-clause-headlines g c =

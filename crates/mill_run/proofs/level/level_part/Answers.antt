@@ -7,7 +7,7 @@ use Rattle.mill_io.proofs.Held.{in_parts}
 use Rattle.mill_load.specs.declared.load.LoadFault.{LoadFault}
 use Rattle.mill_load.specs.declared.load.Setup.{Setup}
 use Rattle.mill_run.specs.Answers.{refused_word}
-use Rattle.mill_run.specs.Calls.{Call, call_of}
+use Rattle.mill_answer.specs.Calls.{Call, call_of}
 use Rattle.mill_run.specs.Level.{HasHeight}
 use Rattle.mill_run.specs.Outcomes.{file_name}
 use Rattle.mill_load.specs.Setup.{setup_texts}
@@ -38,7 +38,7 @@ returns-in-Err-read_height g c =
 pub tell_level-requires-clause-height_ok : goal.tell_level-requires-clause-height_ok
 tell_level-requires-clause-height_ok g c =
     let height_fits : FitsSigned w32 c.in-Ok-read_height.height = search rules in
-    simp to_z-of_z (within_of_unit c.in-Ok.job.unit c.in-Ok-read_height.height c.in-Ok-read_height.ensures.in_range)
+    simp to_z-of_z (within_of_unit c.in-Ok.job.fields.unit c.in-Ok-read_height.height c.in-Ok-read_height.ensures.in_range)
 
 pub returns-in-Ok-load_under : goal.returns-in-Ok-load_under
 returns-in-Ok-load_under g c =
@@ -49,11 +49,11 @@ returns-in-Ok-load_under g c =
     let height_fits : FitsSigned w32 c.in-Ok-read_height.height = search rules in
     let first = c.in-Ok.ensures.store in
     let next = c.in-Ok-load_under.ensures.store in
-    level_serves c.args.job.now c.args.part.now c.args.z.now call c.in-Ok.job c.in-Ok-read_height.height c.in-Ok-load_under.setup c.in-Ok-read_height.ensures.told
+    level_serves c.args.job.now c.args.part.now c.args.z.now call c.in-Ok.job.fields c.in-Ok-read_height.height c.in-Ok-load_under.setup c.in-Ok-read_height.ensures.told
     (c.in-Ok-load_under.ensures.told between.contents next.held).0
     (λ contents held.
     let parts = in_parts contents start.contents between.contents _ _ _ first.held next.held held in
-    under_loads (setup_texts contents c.args.job.now c.args.part.now) c.in-Ok.job r (c.in-Ok.ensures.told contents parts.first) (c.in-Ok-load_under.ensures.told contents parts.next))
+    under_loads (setup_texts contents c.args.job.now c.args.part.now) c.in-Ok.job.fields r (c.in-Ok.ensures.told contents parts.first) (c.in-Ok-load_under.ensures.told contents parts.next))
     (loads_on _ _ _ c.in-Ok.job r first next) (simp to_z-of_z at c.tell_level.ensures)
 
 pub returns-in-Err-load_under : goal.returns-in-Err-load_under
@@ -73,8 +73,8 @@ returns-in-Err-load_under g c =
     (λ contents held.
     let parts = in_parts contents start.contents between.contents _ _ _ first.held next.held held in
     let read = c.in-Ok.ensures.told contents parts.first in
-    let height : HasHeight (setup_texts contents job part) z = record { job = c.in-Ok.job; height = c.in-Ok-read_height.height; job_is = read; height_is = c.in-Ok-read_height.ensures.told } in
+    let height : HasHeight (setup_texts contents job part) z = record { job = c.in-Ok.job.fields; height = c.in-Ok-read_height.height; job_is = read; height_is = c.in-Ok-read_height.ensures.told } in
     level_fault contents job part z f
-    (part_fault_with (HasHeight (setup_texts contents job part) z) (setup_texts contents job part) c.in-Ok.job f height read (c.in-Err-load_under.ensures.told contents parts.next)))
+    (part_fault_with (HasHeight (setup_texts contents job part) z) (setup_texts contents job part) c.in-Ok.job.fields f height read (c.in-Err-load_under.ensures.told contents parts.next)))
     (λ contents held. fails_named contents asked call.store_after.log f (λ file failed. failed) (c.in-Err-load_under.ensures.failed (file_name asked) refl))
     c.requires (loads_on _ _ _ c.in-Ok.job r first next) c.tell_fault-in-Err-load_under.ensures

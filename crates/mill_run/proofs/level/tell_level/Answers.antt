@@ -11,11 +11,11 @@ pub returns-in-Ok : goal.returns-in-Ok
 returns-in-Ok g c =
     let height_fits : FitsSigned w32 c.args.height = search rules in
     let answer : LevelAnswer = outlines (map seen c.in-Ok.chains.items) in
-    let right : IsLevelAnswer c.args.setup.now.job c.args.setup.now.part c.args.height answer = (simp to_z-of_z at c.in-Ok.ensures.chains, c.in-Ok.ensures.few) in
+    let right : IsLevelAnswer c.args.setup.job.fields c.args.setup.part c.args.height answer = (simp to_z-of_z at c.in-Ok.ensures.chains, c.in-Ok.ensures.few) in
     inl (record {
       answer = answer;
       is = right;
-      printed = made_prints c.text_of_chains.result (leveled c.args.setup.now.job.unit answer) _ _ _ _ refl (rw c.deref.ensures.value at c.text_of_chains.ensures) c.tell_made.ensures;
+      printed = made_prints c.text_of_chains.result (leveled c.args.setup.job.fields.unit answer) _ _ _ _ refl (rw c.deref.ensures.value at c.text_of_chains.ensures) c.tell_made.ensures;
     })
 
 pub returns-in-Err-TooManyNodes : goal.returns-in-Err-TooManyNodes
@@ -24,5 +24,5 @@ returns-in-Err-TooManyNodes g c =
     inl (record {
       answer = answer;
       is = c.in-Err-TooManyNodes.ensures.nodes c.in-Err-TooManyNodes.nodes (cc);
-      printed = made_prints c.line_of_nodes.result (leveled c.args.setup.now.job.unit answer) _ _ _ _ refl c.line_of_nodes.ensures c.tell_made-in-Err-TooManyNodes.ensures;
+      printed = made_prints c.line_of_nodes.result (leveled c.args.setup.job.fields.unit answer) _ _ _ _ refl (rw c.in-Err-TooManyNodes.field-0-is at c.line_of_nodes.ensures) c.tell_made-in-Err-TooManyNodes.ensures;
     })

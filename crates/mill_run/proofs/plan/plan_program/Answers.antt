@@ -1,5 +1,5 @@
 use Rattle.mill_command.specs.Requests.{Request, plan}
-use Rattle.mill_run.specs.Calls.{Call, call_of}
+use Rattle.mill_answer.specs.Calls.{Call, call_of}
 use Rattle.std.proofs.Common.{refl}
 use Rattle.mill_run.specs.Outcomes.{file_name}
 use Rattle.mill_run.proofs.Serving.{fails_named, fault_serves}

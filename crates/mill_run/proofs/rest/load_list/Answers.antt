@@ -10,7 +10,7 @@ returns-in-Err-clause-failed g c = λ names same. c.in-Err.ensures.failed names 
 
 pub returns-in-Ok-clause-told : goal.returns-in-Ok-clause-told
 returns-in-Ok-clause-told g c = λ contents held.
-    list_told c.args.job.now (contents c.args.name.now) c.in-Ok.text.items _ (c.in-Ok.ensures.told contents held) (rw c.deref.ensures.value at c.list_from.ensures.told)
+    list_told c.args.job.now.fields (contents c.args.name.now) c.in-Ok.text.items _ (c.in-Ok.ensures.told contents held) (rw c.deref.ensures.value at c.list_from.ensures.told)
 
 pub returns-in-Err-clause-told : goal.returns-in-Err-clause-told
-returns-in-Err-clause-told g c = λ contents held. no_list_bytes c.args.job.now (contents c.args.name.now) c.in-Err.fault (c.in-Err.ensures.told contents held)
+returns-in-Err-clause-told g c = λ contents held. no_list_bytes c.args.job.now.fields (contents c.args.name.now) c.in-Err.fault (c.in-Err.ensures.told contents held)

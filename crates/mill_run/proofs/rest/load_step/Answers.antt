@@ -10,11 +10,11 @@ returns-in-Ok-clause-read g c = λ contents held. record { cutter_is = refl; mov
 pub returns-in-Ok-clause-ready : goal.returns-in-Ok-clause-ready
 returns-in-Ok-clause-ready g c =
     let moves = c.in-Ok.ensures.ready in
-    record { fits = c.requires.fits; moves_ok = moves_of_unit c.args.job.now.unit c.in-Ok.moves.items moves.in_range; follow = moves.follow; few = moves.few }
+    record { fits = c.requires; moves_ok = moves_of_unit c.args.job.now.fields.unit c.in-Ok.moves.items moves.in_range; follow = moves.follow; few = moves.few }
 
 pub returns-in-Err-clause-failed : goal.returns-in-Err-clause-failed
 returns-in-Err-clause-failed g c = c.in-Err.ensures.failed (λ file. c.args.step.now.program) (sym c.as_str-program.ensures)
 
 pub returns-in-Err-clause-fault : goal.returns-in-Err-clause-fault
 returns-in-Err-clause-fault g c = λ contents held.
-    subst (λ (name : List ℕ). LoadsProgram c.args.job.now (contents name) (StepProgram c.args.number) (Err c.in-Err.fault)) c.as_str-program.ensures (c.in-Err.ensures.told contents held)
+    subst (λ (name : List ℕ). LoadsProgram c.args.job.now.fields (contents name) (StepProgram c.args.number) (Err c.in-Err.fault)) c.as_str-program.ensures (c.in-Err.ensures.told contents held)

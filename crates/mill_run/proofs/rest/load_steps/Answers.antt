@@ -3,8 +3,8 @@ use Rattle.std.proofs.lemmas.List.{take_all}
 use Rattle.std.proofs.lemmas.List.Elements.{All-push, All-same}
 use Rattle.mill_io.proofs.Held.{held_as, held_none, held_on, in_parts}
 use Rattle.mill_io.proofs.Read.{reads_on}
-use Rattle.mill_list.specs.declared.limits.TheConstants.{MAX_STEPS}
-use Rattle.mill_list.specs.declared.step.Step.{Step}
+use Rattle.mill_job.specs.declared.step_limits.TheConstants.{MAX_STEPS}
+use Rattle.mill_job.specs.declared.step.Step.{Step}
 use Rattle.mill_load.proofs.Reading.{loads_on}
 use Rattle.mill_load.specs.Loads.{OnlyLoads}
 use Rattle.mill_load.specs.declared.load.LoadFault.{LoadFault}
@@ -24,7 +24,7 @@ loop-number-preserved g c =
     let start = g.S.Shelf.shows c.args.shelf.now in
     let here = g.S.Shelf.shows c.loop-number.shelf in
     let after = g.S.Shelf.shows c.load_step.new.shelf in
-    let job = c.args.job.now in
+    let job = c.args.job.now.fields in
     let steps = c.args.steps.now in
     let n = c.loop-number.number in
     let file = c.in-Ok.file in
@@ -50,7 +50,7 @@ returns-in-Err-clause-fault g c = λ contents held.
     let after = g.S.Shelf.shows c.load_step.new.shelf in
     let was = c.loop-number.invariant in
     let parts = in_parts contents start.contents here.contents start.log here.log after.log was.held c.in-Err.ensures.store.held held in
-    stops_at contents c.args.job.now c.args.steps.now c.loop-number.files.items c.loop-number.number c.index-steps-number.result c.loop-number-test.true c.index-steps-number.is
+    stops_at contents c.args.job.now.fields c.args.steps.now c.loop-number.files.items c.loop-number.number c.index-steps-number.result c.loop-number-test.true c.index-steps-number.is
     (was.read contents parts.first) after.log c.in-Err.fault (c.in-Err.ensures.fault contents parts.next) c.in-Err.ensures.failed
 
 pub returns-in-Err-clause-store : goal.returns-in-Err-clause-store
@@ -71,7 +71,7 @@ returns-in_default-clause-fault g c = λ contents held.
     let after = g.S.Shelf.shows c.load_step.new.shelf in
     let was = c.loop-number.invariant in
     let parts = in_parts contents start.contents here.contents start.log here.log after.log was.held c.in-Ok.ensures.store.held held in
-    stops_at contents c.args.job.now c.args.steps.now c.loop-number.files.items c.loop-number.number c.index-steps-number.result c.loop-number-test.true c.index-steps-number.is
+    stops_at contents c.args.job.now.fields c.args.steps.now c.loop-number.files.items c.loop-number.number c.index-steps-number.result c.loop-number-test.true c.index-steps-number.is
     (was.read contents parts.first) after.log Memory tt tt
 
 pub returns-in_default-clause-store : goal.returns-in_default-clause-store
@@ -87,7 +87,7 @@ returns-in_default-clause-store g c =
 
 pub returns-clause-read : goal.returns-clause-read
 returns-clause-read g c = λ contents held.
-    subst (λ (xs : List Step). ReadsSteps contents c.args.job.now xs c.loop-number.files.items) (take_all c.loop-number.number c.args.steps.now c.loop-number-test.false) (c.loop-number.invariant.read contents held)
+    subst (λ (xs : List Step). ReadsSteps contents c.args.job.now.fields xs c.loop-number.files.items) (take_all c.loop-number.number c.args.steps.now c.loop-number-test.false) (c.loop-number.invariant.read contents held)
 
 pub returns-clause-few : goal.returns-clause-few
 returns-clause-few g c =
@@ -95,5 +95,5 @@ returns-clause-few g c =
     let steps = c.args.steps.now in
     let n = c.loop-number.number in
     let was = c.loop-number.invariant in
-    let many = as_many start.contents c.args.job.now (take n steps) c.loop-number.files.items (was.read start.contents was.held) in
+    let many = as_many start.contents c.args.job.now.fields (take n steps) c.loop-number.files.items (was.read start.contents was.held) in
     subst (λ (count : ℕ). count ≤ MAX_STEPS) (sym (many ∙ ap length (take_all n steps c.loop-number-test.false))) c.requires.few

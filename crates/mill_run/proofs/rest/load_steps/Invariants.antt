@@ -12,6 +12,6 @@ invariant-loop-number g l = record {
   only : ReadsOnly (g.S.Shelf.shows l.initial.shelf) (g.S.Shelf.shows l.shelf);
   faults : (g.S.Shelf.shows l.shelf).read_faults ≡ (g.S.Shelf.shows l.initial.shelf).read_faults;
   held : AreHeld (g.S.Shelf.shows l.initial.shelf).contents (g.S.Shelf.shows l.initial.shelf).log (g.S.Shelf.shows l.shelf).log;
-  read : (contents : List ℕ → Option (List ℕ)) → AreHeld contents (g.S.Shelf.shows l.initial.shelf).log (g.S.Shelf.shows l.shelf).log → ReadsSteps contents l.job (take l.number l.steps) l.files.items;
-  ready : All (IsFileOf l.job) l.files.items;
+  read : (contents : List ℕ → Option (List ℕ)) → AreHeld contents (g.S.Shelf.shows l.initial.shelf).log (g.S.Shelf.shows l.shelf).log → ReadsSteps contents l.job.fields (take l.number l.steps) l.files.items;
+  ready : All (IsFileOf l.job.fields) l.files.items;
 }

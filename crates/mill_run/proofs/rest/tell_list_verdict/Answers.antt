@@ -9,13 +9,13 @@ verify_list-requires-clause-files_ok g c = rw c.deref.ensures.value c.requires.r
 pub tell_line_of_list-requires-clause-names : goal.tell_line_of_list-requires-clause-names
 tell_line_of_list-requires-clause-names g c =
     let listed = c.args.listed.now in
-    let t = files_told listed.job listed.part listed.files.items c.deref.result.now c.in-Ok.verdict c.deref.ensures.value c.in-Ok.ensures.verdict
+    let t = files_told listed.job.fields listed.part listed.files.items c.deref.result.now c.in-Ok.verdict c.deref.ensures.value c.in-Ok.ensures.verdict
     (λ count moves columns left e. c.in-Ok.ensures.safe count moves columns left (ap Ok e)) (λ f reason e. c.in-Ok.ensures.blocked f reason (ap Ok e)) in
     t.there
 
 pub returns-in-Ok : goal.returns-in-Ok
 returns-in-Ok g c =
     let listed = c.args.listed.now in
-    let t = files_told listed.job listed.part listed.files.items c.deref.result.now c.in-Ok.verdict c.deref.ensures.value c.in-Ok.ensures.verdict
+    let t = files_told listed.job.fields listed.part listed.files.items c.deref.result.now c.in-Ok.verdict c.deref.ensures.value c.in-Ok.ensures.verdict
     (λ count moves columns left e. c.in-Ok.ensures.safe count moves columns left (ap Ok e)) (λ f reason e. c.in-Ok.ensures.blocked f reason (ap Ok e)) in
     inl (record { verdict = c.in-Ok.verdict; is = t.is; safe = t.safe; named = t.named; printed = c.tell_line_of_list.ensures })

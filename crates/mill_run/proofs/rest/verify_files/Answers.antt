@@ -1,5 +1,5 @@
 use Rattle.mill_command.specs.Requests.{rest}
-use Rattle.mill_run.specs.Calls.{Call, call_of}
+use Rattle.mill_answer.specs.Calls.{Call, call_of}
 use Rattle.mill_run.proofs.Rests.{rest_failed, rest_load_fault, rest_serves}
 use Rattle.mill_run.proofs.Serving.{fault_serves}
 use Rattle.mill_run.proofs.rest.verify_files.Goals as goal

@@ -7,4 +7,4 @@ use Rattle.mill_run.proofs.sample.read_back.Goals as goal
 pub unreachable-requires : goal.unreachable-requires
 unreachable-requires c =
     let other : (c.read_moves.result ≢ Err WantOfMemory) = search rules in
-    no_fault _ c.in-Err._fault (c.in-Err.ensures.fault (λ e. other (c.in-Err.is ∙ ap Err e))) c.requires.reads
+    no_fault _ c.in-Err._fault (c.in-Err.ensures.fault (λ e. other (c.in-Err.is ∙ ap Err e))) c.requires

@@ -1,5 +1,5 @@
 use Rattle.std.proofs.Common.{refl, inr}
-use Rattle.mill_run.specs.Calls.{Call, call_of}
+use Rattle.mill_answer.specs.Calls.{Call, call_of}
 use Rattle.mill_run.proofs.Samples.{sample_serves}
 use Rattle.mill_run.proofs.sample.sample.Goals as goal
 

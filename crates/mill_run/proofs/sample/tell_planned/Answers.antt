@@ -12,5 +12,5 @@ returns-in-Ok-Accept g c =
     let left_fits : FitsSigned w32 told.most_left = search rules in
     let line : IfOk c.line_of_sample-line.result (λ line. line.items ≡ sample_line c.args.size (done [] told.moves told.columns told.most_left)) =
     simp to_z-of_z at c.line_of_sample-line.ensures in
-    verdict_tries c.args.size _ _ _ c.args.setup.now c.args.planned.now told.moves told.columns told.most_left c.line_of_sample-line.result c.requires.setup_ok c.requires.planned_ok
+    verdict_tries c.args.size _ _ _ c.args.job.now.fields c.args.part.now c.args.planned.now told.moves told.columns told.most_left c.line_of_sample-line.result c.requires.sample_ok c.requires.planned_ok
     (sym told.field-0-is ∙ told.ensures) line c.tell_made.ensures

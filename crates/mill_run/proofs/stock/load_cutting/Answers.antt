@@ -19,7 +19,7 @@ returns-in-Err-load_program-clause-told g c = λ contents held.
     let start = g.S.Shelf.shows c.args.shelf.now in
     let between = g.S.Shelf.shows c.load_job.new.shelf in
     let parts = in_parts contents start.contents between.contents _ _ _ c.in-Ok.ensures.store.held c.in-Err-load_program.ensures.store.held held in
-    no_program (stock_texts contents c.args.job.now c.args.program.now) c.in-Ok.job c.in-Err-load_program.fault
+    no_program (stock_texts contents c.args.job.now c.args.program.now) c.in-Ok.job.fields c.in-Err-load_program.fault
     (c.in-Ok.ensures.told contents parts.first) (c.in-Err-load_program.ensures.told contents parts.next)
 
 pub returns-in-Err-load_program-clause-failed : goal.returns-in-Err-load_program-clause-failed

@@ -10,7 +10,7 @@ use Rattle.mill_run.proofs.stock.rows_after.Goals as goal
 
 pub loop-step-preserved : goal.loop-step-preserved
 loop-step-preserved c =
-    let job = c.args.job.now in
+    let job = c.args.job.now.fields in
     let moves = c.args.moves.now in
     let rows = c.loop-step.rows in
     let new = c.cut_rows.new.rows in
@@ -26,8 +26,8 @@ loop-step-preserved c =
 
 pub returns-clause-stock : goal.returns-clause-stock
 returns-clause-stock c =
-    subst (λ (ms : List Move). IsStock c.args.job.now ms c.loop-step.rows.items) (take_all c.loop-step.step-index c.args.moves.now c.loop-step-test.false)
+    subst (λ (ms : List Move). IsStock c.args.job.now.fields ms c.loop-step.rows.items) (take_all c.loop-step.step-index c.args.moves.now c.loop-step-test.false)
     c.loop-step.invariant.stock
 
 pub cut_rows-requires-clause-step : goal.cut_rows-requires-clause-step
-cut_rows-requires-clause-step c = c.requires.moves_ok _ (Contains-get_or c.args.moves.now c.loop-step.step-index _ c.loop-step-test.true)
+cut_rows-requires-clause-step c = c.requires _ (Contains-get_or c.args.moves.now c.loop-step.step-index _ c.loop-step-test.true)

@@ -5,6 +5,6 @@ use Rattle.mill_run.proofs.stock.rows_after.Given as goal
 
 abbrev pub invariant-loop-step : goal.invariant-loop-step
 invariant-loop-step l = record {
-  stock : IsStock l.job (take l.step-index l.moves) l.rows.items;
-  rows_ok : All (IsRowOf l.job) l.rows.items;
+  stock : IsStock l.job.fields (take l.step-index l.moves) l.rows.items;
+  rows_ok : All (IsRowOf l.job.fields) l.rows.items;
 }

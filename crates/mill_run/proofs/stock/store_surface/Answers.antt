@@ -1,7 +1,7 @@
 use Rattle.std.proofs.Common.{refl, inl, ◌∙◌}
-use Rattle.mill_load.specs.declared.status.Status.TheVariants as status
+use Rattle.mill_answer.specs.declared.status.Status.TheVariants as status
 use Rattle.mill_run.specs.Answers.{Answer, stocked}
-use Rattle.mill_run.specs.Calls.{Call, call_of}
+use Rattle.mill_answer.specs.Calls.{Call, call_of}
 use Rattle.mill_run.specs.Stock.{drawn}
 use Rattle.mill_run.proofs.Storing.{stored_shows, unstored_shows}
 use Rattle.mill_run.proofs.stock.store_surface.Goals as goal

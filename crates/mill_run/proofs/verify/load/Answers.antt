@@ -1,11 +1,14 @@
-use Rattle.std.proofs.Common.{Result, Ok, Err}
+use Rattle.std.proofs.Common.{List, Result, Ok, Err, subst, sym}
 use Rattle.std.specs.Global.{Vec}
+use Rattle.mill_base.specs.Covers.{IsUnder}
 use Rattle.mill_base.specs.declared.motion.Move.{Move}
+use Rattle.mill_base.specs.declared.points.Tri.{Tri}
 use Rattle.mill_io.proofs.Held.{in_parts}
 use Rattle.mill_load.proofs.Reading.{loads_on}
+use Rattle.mill_load.specs.Setup.{ReadsSetup}
 use Rattle.mill_load.specs.declared.load.LoadFault.{LoadFault}
 use Rattle.mill_run.proofs.Serving.{no_moves, no_setup}
-use Rattle.mill_run.specs.Verify.{texts_of}
+use Rattle.mill_answer.specs.Verify.{texts_of}
 use Rattle.mill_run.proofs.verify.load.Goals as goal
 
 pub returns-in-Err-clause-told : goal.returns-in-Err-clause-told
@@ -20,7 +23,7 @@ returns-in-Err-load_program-clause-told g c = λ contents held.
     let start = g.S.Shelf.shows c.args.shelf.now in
     let between = g.S.Shelf.shows c.load_setup.new.shelf in
     let parts = in_parts contents start.contents between.contents _ _ _ c.in-Ok.ensures.store.held c.in-Err-load_program.ensures.store.held held in
-    no_moves (texts_of contents (record { job = c.args.job.now; part = c.args.part.now; program = c.args.program.now })) c.in-Ok.setup.job c.in-Ok.setup.part c.in-Err-load_program.fault
+    no_moves (texts_of contents (record { job = c.args.job.now; part = c.args.part.now; program = c.args.program.now })) c.in-Ok.setup.job.fields c.in-Ok.setup.part c.in-Err-load_program.fault
     (c.in-Ok.ensures.told contents parts.first) (c.in-Err-load_program.ensures.told contents parts.next)
 
 pub returns-in-Err-load_program-clause-failed : goal.returns-in-Err-load_program-clause-failed
@@ -37,7 +40,23 @@ returns-clause-told g c = λ contents held.
     let start = g.S.Shelf.shows c.args.shelf.now in
     let between = g.S.Shelf.shows c.load_setup.new.shelf in
     let parts = in_parts contents start.contents between.contents _ _ _ c.in-Ok.ensures.store.held c.in-Ok-load_program.ensures.store.held held in
-    record { setup_is = c.in-Ok.ensures.told contents parts.first; moves_are = c.in-Ok-load_program.ensures.told contents parts.next }
+    let texts = texts_of contents (record { job = c.args.job.now; part = c.args.part.now; program = c.args.program.now }) in
+    record {
+      setup_is = subst (λ (part : List Tri). ReadsSetup texts.setup c.in-Ok.setup.job.fields part) (sym c.in-Ok-new.ensures) (c.in-Ok.ensures.told contents parts.first);
+      moves_are = c.in-Ok-load_program.ensures.told contents parts.next;
+    }
+
+pub returns-clause-ready : goal.returns-clause-ready
+returns-clause-ready g c = record {
+  under = subst (λ (part : List Tri). IsUnder part c.in-Ok.setup.job.fields.top) (sym c.in-Ok-new.ensures) c.in-Ok.ensures.ready;
+  moves_ok = c.in-Ok-load_program.ensures.ready;
+}
+
+pub returns-in_default-clause-store : goal.returns-in_default-clause-store
+returns-in_default-clause-store g c =
+    let r : Result (Vec Move) LoadFault = Ok c.in-Ok-load_program.moves in
+    let all = loads_on _ _ _ c.in-Ok.setup r c.in-Ok.ensures.store c.in-Ok-load_program.ensures.store in
+    record { only = all.only; reads = all.reads; held = all.held }
 
 pub returns-clause-store : goal.returns-clause-store
 returns-clause-store g c =

@@ -3,4 +3,4 @@ use Rattle.mill_dexel.specs.Rows.{IsRowOf}
 use Rattle.mill_stock_tests.proofs.row.turned.Given as goal
 
 abbrev pub invariant-loop-t : goal.invariant-loop-t
-invariant-loop-t l = IsRowOf l.job l.row × (l.row.failed ≡ None) × (l.row.done ≡ l.t)
+invariant-loop-t l = IsRowOf l.job.fields l.row × (l.row.failed ≡ None) × (l.row.done ≡ l.t)

@@ -7,7 +7,7 @@ use Rattle.mill_surface.proofs.surfaces.add_strip.Goals as goal
 
 pub loop-column-preserved : goal.loop-column-preserved
 loop-column-preserved c = record {
-  tris = added_more (square_tris (point_in c.args.job.now c.args.rows.now) c.args.row) c.args.tris.now.items c.loop-column.tris.items c.add_square.new.tris.items c.loop-column.column
+  tris = added_more (square_tris (point_in c.args.job.now.fields c.args.rows.now) c.args.row) c.args.tris.now.items c.loop-column.tris.items c.add_square.new.tris.items c.loop-column.column
       c.loop-column.invariant.tris c.in_ok-add_square.ensures.tris;
   in_range = c.in_ok-add_square.ensures.in_range;
 }
@@ -15,5 +15,5 @@ loop-column-preserved c = record {
 pub returns-clause-tris : goal.returns-clause-tris
 unfolding strip_tris
 returns-clause-tris c =
-    let all : c.loop-column.column ≡ column_count c.args.job.now - 1 = omega arith in
-    c.loop-column.invariant.tris ∙ ap (λ (n : ℕ). c.args.tris.now.items ++ flat_map (square_tris (point_in c.args.job.now c.args.rows.now) c.args.row) (range_with_len 0 n)) all
+    let all : c.loop-column.column ≡ column_count c.args.job.now.fields - 1 = omega arith in
+    c.loop-column.invariant.tris ∙ ap (λ (n : ℕ). c.args.tris.now.items ++ flat_map (square_tris (point_in c.args.job.now.fields c.args.rows.now) c.args.row) (range_with_len 0 n)) all

@@ -7,6 +7,6 @@ use Rattle.mill_surface.proofs.surfaces.all_tris.Given as goal
 
 abbrev pub invariant-loop-row : goal.invariant-loop-row
 invariant-loop-row l = record {
-  tris : l.tris.items ≡ flat_map (strip_tris (column_count l.job) (point_in l.job l.rows)) (range_with_len 0 l.row);
-  in_range : TrisInUnitRange l.job.unit l.tris.items;
+  tris : l.tris.items ≡ flat_map (strip_tris (column_count l.job.fields) (point_in l.job.fields l.rows)) (range_with_len 0 l.row);
+  in_range : TrisInUnitRange l.job.fields.unit l.tris.items;
 }

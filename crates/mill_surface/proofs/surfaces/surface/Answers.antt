@@ -7,11 +7,11 @@ use Rattle.mill_surface.proofs.Counts.{length-surface}
 use Rattle.mill_surface.proofs.surfaces.surface.Goals as goal
 
 pub returns-clause-after : goal.returns-clause-after
-returns-clause-after c = λ moves stock. c.in_ok-all_tris.ensures.tris ∙ surface_after c.args.job.now moves c.args.rows.now stock
+returns-clause-after c = λ moves stock. c.in_ok-all_tris.ensures.tris ∙ surface_after c.args.job.now.fields moves c.args.rows.now stock
 
 pub returns-clause-count : goal.returns-clause-count
 returns-clause-count c =
-    ap (λ (tris : List Tri). length tris) c.in_ok-all_tris.ensures.tris ∙ length-surface c.args.job.now (point_in c.args.job.now c.args.rows.now)
+    ap (λ (tris : List Tri). length tris) c.in_ok-all_tris.ensures.tris ∙ length-surface c.args.job.now.fields (point_in c.args.job.now.fields c.args.rows.now)
 
 pub returns-clause-few : goal.returns-clause-few
 returns-clause-few c =

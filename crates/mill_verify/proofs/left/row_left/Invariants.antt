@@ -3,4 +3,4 @@ use Rattle.mill_verify.proofs.Remaining.{IsRowLeftTo}
 use Rattle.mill_verify.proofs.left.row_left.Given as goal
 
 abbrev pub invariant-loop-index : goal.invariant-loop-index
-invariant-loop-index l = IsRowLeftTo l.job l.part (shown_by l.rows) l.number l.index l.most
+invariant-loop-index l = IsRowLeftTo l.job.fields l.part (shown_by l.rows) l.number l.index l.most

@@ -11,7 +11,7 @@ pub loop-index-init : goal.loop-index-init
 loop-index-init c = rows_left_none refl
 
 pub overflow_cast-index : goal.overflow_cast-index
-overflow_cast-index c = omega (arith, rows_few c.requires.job_ok, c.requires.rows_ok.shows.count)
+overflow_cast-index c = omega (arith, rows_few c.args.job.now.is_job, c.requires.rows_ok.shows.count)
 
 pub row_left-requires-clause-there : goal.row_left-requires-clause-there
 row_left-requires-clause-there c = row_there c.requires.rows_ok.shows (omega (arith, c.loop-index-test.true, c.requires.there))

@@ -10,12 +10,12 @@ use Rattle.mill_verify.proofs.list.last_verdict.Goals as goal
 
 pub stock_left-requires-clause-rows_ok : goal.stock_left-requires-clause-rows_ok
 stock_left-requires-clause-rows_ok g c =
-    shown_rows c.args.job.now (after_files c.args.job.now (uncut c.args.job.now) c.args.files.now) c.args.rows.now
-    (files_stay c.args.job.now (uncut c.args.job.now) c.args.files.now (uncut_stays c.args.job.now c.requires.job_ok.stock)) c.requires.passed.shows
+    shown_rows c.args.job.now.fields (after_files c.args.job.now.fields (uncut c.args.job.now.fields) c.args.files.now) c.args.rows.now
+    (files_stay c.args.job.now.fields (uncut c.args.job.now.fields) c.args.files.now (uncut_stays c.args.job.now.fields c.args.job.now.is_job.stock)) c.requires.passed.shows
 
 pub returns-in-Ok-clause-verdict : goal.returns-in-Ok-clause-verdict
 returns-in-Ok-clause-verdict g c =
-    let left = c.in-Ok.ensures (after_files c.args.job.now (uncut c.args.job.now) c.args.files.now) c.requires.passed.shows in
+    let left = c.in-Ok.ensures (after_files c.args.job.now.fields (uncut c.args.job.now.fields) c.args.files.now) c.requires.passed.shows in
     let fits : FitsSigned w32 c.in-Ok.most_left = search rules in
     rw (to_z-of_z w32 c.in-Ok.most_left fits) (record {
       good = c.requires.passed.good;

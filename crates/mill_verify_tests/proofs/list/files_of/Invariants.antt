@@ -3,4 +3,4 @@ use Rattle.mill_verify.specs.Files.{IsFileOf}
 use Rattle.mill_verify_tests.proofs.list.files_of.Given as goal
 
 abbrev pub invariant-loop-each : goal.invariant-loop-each
-invariant-loop-each l = All (IsFileOf l.job) l.files.items
+invariant-loop-each l = All (IsFileOf l.job.fields) l.files.items

@@ -3,4 +3,4 @@ use Rattle.std.proofs.lemmas.Int.{to_z-of_z}
 use Rattle.mill_verify_tests.proofs.program.told_of.Goals as goal
 
 pub verify-requires-clause-under : goal.verify-requires-clause-under
-verify-requires-clause-under g c = rw (to_z-of_z w32 c.in_ok-job.job.top (search rules)) at c.in_ok-part.ensures
+verify-requires-clause-under g c = rw (to_z-of_z w32 c.in_ok-job.job.fields.top (search rules)) at c.in_ok-part.ensures

@@ -3,4 +3,4 @@ use Rattle.mill_verify_tests.proofs.Programs.{LeadTo}
 use Rattle.mill_verify_tests.proofs.samples.program.Given as goal
 
 abbrev pub invariant-loop-each : goal.invariant-loop-each
-invariant-loop-each l = LeadTo (home l.job) l.at l.moves.items
+invariant-loop-each l = LeadTo (home l.job.fields) l.at l.moves.items

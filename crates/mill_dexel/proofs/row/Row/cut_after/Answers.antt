@@ -4,4 +4,4 @@ use Rattle.mill_dexel.proofs.RowLaws.{turned_is_row}
 use Rattle.mill_dexel.proofs.row.Row.cut_after.Goals as goal
 
 pub returns-clause-row : goal.returns-clause-row
-returns-clause-row c = turned_is_row c.args.job.now c.args.self.now _ c.args.step.now (grind (arith, common_steps)) c.requires.row
+returns-clause-row c = turned_is_row c.args.job.now.fields c.args.self.now _ c.args.step.now (grind (arith, common_steps)) c.requires.row

@@ -9,9 +9,9 @@ use Rattle.mill_dexel.proofs.row.Row.cut_test.Goals as goal
 pub returns-clause-tested : goal.returns-clause-tested
 returns-clause-tested c = each c.first_stop.result
   where
-    limited : IsTested c.args.job.now Feed
-    limited = let cut = c.requires.job.max_cut_ok.low in let some = c.if-job-eq0.false in omega (arith, ints)
+    limited : IsTested c.args.job.now.fields Feed
+    limited = let cut = c.args.job.now.is_job.max_cut_ok.low in let some = c.if-job-eq0.false in omega (arith, ints)
 
-    each : (o : Option (ℕ × Leaf)) → IfSome o (λ s. IsTested c.args.job.now Feed)
+    each : (o : Option (ℕ × Leaf)) → IfSome o (λ s. IsTested c.args.job.now.fields Feed)
     each None = tt
     each (Some s) = limited

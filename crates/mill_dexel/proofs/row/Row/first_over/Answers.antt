@@ -15,7 +15,7 @@ loop-column-preserved c =
     let under : c.height_at.result ≤ℤ stored w32 c.args.low = omega (arith, ints) in
     λ k from before. elim (cases_lt k c.loop-column.column) [
       | inl early ↦ c.loop-column.invariant k from early
-      | inr late ↦ subst (λ (n : ℕ). tested_height c.args.job.now c.args.kind (top_at c.args.self.now.tops n) ≤ℤ stored w32 c.args.low) (same k c.loop-column.column late before)
+      | inr late ↦ subst (λ (n : ℕ). tested_height c.args.job.now.fields c.args.kind (top_at c.args.self.now.tops n) ≤ℤ stored w32 c.args.low) (same k c.loop-column.column late before)
           (subst (λ (z : ℤ). z ≤ℤ stored w32 c.args.low) c.height_at.ensures under)
     ]
   where
@@ -25,9 +25,9 @@ loop-column-preserved c =
 pub returns-clause-before : goal.returns-clause-before
 returns-clause-before c =
     let stays : stored w32 c.args.low ≡ c.args.low = omega (arith, ints) in
-    λ k from before. subst (λ (z : ℤ). tested_height c.args.job.now c.args.kind (top_at c.args.self.now.tops k) ≤ℤ z) stays (c.loop-column.invariant k from (omega (before, arith)))
+    λ k from before. subst (λ (z : ℤ). tested_height c.args.job.now.fields c.args.kind (top_at c.args.self.now.tops k) ≤ℤ z) stays (c.loop-column.invariant k from (omega (before, arith)))
 
 pub returns-then-low-height_at-clause-before : goal.returns-then-low-height_at-clause-before
 returns-then-low-height_at-clause-before c =
     let stays : stored w32 c.args.low ≡ c.args.low = omega (arith, ints) in
-    λ k from before. subst (λ (z : ℤ). tested_height c.args.job.now c.args.kind (top_at c.args.self.now.tops k) ≤ℤ z) stays (c.loop-column.invariant k from before)
+    λ k from before. subst (λ (z : ℤ). tested_height c.args.job.now.fields c.args.kind (top_at c.args.self.now.tops k) ≤ℤ z) stays (c.loop-column.invariant k from before)

@@ -5,4 +5,4 @@ use Rattle.mill_dexel.specs.Tops.{tested_height}
 use Rattle.mill_dexel.proofs.row.Row.first_over.Given as goal
 
 abbrev pub invariant-loop-column : goal.invariant-loop-column
-invariant-loop-column l = (k : ℕ) → l.reach.first ≤ k → k < l.column → tested_height l.job l.kind (top_at l.self.tops k) ≤ℤ l.low
+invariant-loop-column l = (k : ℕ) → l.reach.first ≤ k → k < l.column → tested_height l.job.fields l.kind (top_at l.self.tops k) ≤ℤ l.low

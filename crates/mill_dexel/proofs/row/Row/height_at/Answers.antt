@@ -8,18 +8,18 @@ use Rattle.mill_dexel.specs.Tops.{tested_height}
 use Rattle.mill_dexel.proofs.UncutRows.{top_read, top_stays}
 use Rattle.mill_dexel.proofs.row.Row.height_at.Goals as goal
 
-pub tested_height-requires-clause-top : goal.tested_height-requires-clause-top
-tested_height-requires-clause-top c =
-    subst (λ (z : ℤ). IsFrom c.args.job.now.floor c.args.job.now.top z)
-    (sym (top_read c.args.job.now c.args.self.now c.args.column c.index.result.now c.requires.job c.requires.row c.requires.column
+pub tested_height-requires : goal.tested_height-requires
+tested_height-requires c =
+    subst (λ (z : ℤ). IsFrom c.args.job.now.fields.floor c.args.job.now.fields.top z)
+    (sym (top_read c.args.job.now.fields c.args.self.now c.args.column c.index.result.now c.args.job.now.is_job c.requires.row c.requires.column
     (c.index.ensures ∙ ap (λ (r : RowState). get_or r.tops c.args.column c.index.result.now) c.self.view_is)))
-    (top_stays c.args.job.now c.args.self.now c.args.column c.requires.row c.requires.column)
+    (top_stays c.args.job.now.fields c.args.self.now c.args.column c.requires.row c.requires.column)
 
 pub returns : goal.returns
 returns c =
     let stays : stored w32 c.tested_height.result ≡ c.tested_height.result = omega (arith, ints) in
     stays
     ∙ c.tested_height.ensures.value
-    ∙ ap (tested_height c.args.job.now c.args.kind)
-    (top_read c.args.job.now c.args.self.now c.args.column c.index.result.now c.requires.job c.requires.row c.requires.column
+    ∙ ap (tested_height c.args.job.now.fields c.args.kind)
+    (top_read c.args.job.now.fields c.args.self.now c.args.column c.index.result.now c.args.job.now.is_job c.requires.row c.requires.column
     (c.index.ensures ∙ ap (λ (r : RowState). get_or r.tops c.args.column c.index.result.now) c.self.view_is))

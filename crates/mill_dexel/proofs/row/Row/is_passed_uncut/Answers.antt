@@ -19,28 +19,28 @@ use Rattle.mill_dexel.proofs.row.Row.is_passed_uncut.Goals as goal
 
 pub returns-then-is_apart : goal.returns-then-is_apart
 returns-then-is_apart c = λ passed.
-    far_passes_row c.args.job.now (cutting c.args.job.now c.args.kind c.args.step.now) c.args.self.now (cutting_trial c.args.job.now c.args.kind c.args.step.now c.requires.job.cutter_ok c.requires.step)
-    (subst (λ (r : RowState). IsBeyond (radius_of c.args.job.now.cutter +ℤ pos MAX_LAST_REACH) c.args.step.now.from.y c.args.step.now.to.y (column_y c.args.job.now r.row)) c.self.view_is
-    (beyond_same _ _ _ _ (radius_of c.args.job.now.cutter +ℤ pos MAX_LAST_REACH) c.args.step.now.from.y c.args.step.now.to.y (column_y c.args.job.now c.self.inside.number)
+    far_passes_row c.args.job.now.fields (cutting c.args.job.now.fields c.args.kind c.args.step.now) c.args.self.now (cutting_trial c.args.job.now.fields c.args.kind c.args.step.now c.args.job.now.is_job.cutter_ok c.requires.step)
+    (subst (λ (r : RowState). IsBeyond (radius_of c.args.job.now.fields.cutter +ℤ pos MAX_LAST_REACH) c.args.step.now.from.y c.args.step.now.to.y (column_y c.args.job.now.fields r.row)) c.self.view_is
+    (beyond_same _ _ _ _ (radius_of c.args.job.now.fields.cutter +ℤ pos MAX_LAST_REACH) c.args.step.now.from.y c.args.step.now.to.y (column_y c.args.job.now.fields c.self.inside.number)
     (omega (arith, ints)) (omega (arith, ints)) (omega (arith, ints)) (omega (arith, ints)) (c.is_apart.ensures c.if-is_apart.true)))
 
 pub passes_tri-requires-clause-tri_ok : goal.passes_tri-requires-clause-tri_ok
 passes_tri-requires-clause-tri_ok c =
-    let row_is = c.uncut_triangle.ensures ∙ ap (λ (r : RowState). uncut_tri c.args.job.now c.args.kind r.row) c.self.view_is in
-    subst (λ (t : Tri). TriInRange t) (sym row_is) (uncut_in_range c.args.job.now c.args.kind c.args.self.now.row c.requires.job c.requires.row.there)
+    let row_is = c.uncut_triangle.ensures ∙ ap (λ (r : RowState). uncut_tri c.args.job.now.fields c.args.kind r.row) c.self.view_is in
+    subst (λ (t : Tri). TriInRange t) (sym row_is) (uncut_in_range c.args.job.now.fields c.args.kind c.args.self.now.row c.args.job.now.is_job c.requires.row.there)
 
 pub returns-in-Rapid : goal.returns-in-Rapid
 returns-in-Rapid c = λ passed.
-    let row_is = c.uncut_triangle.ensures ∙ ap (λ (r : RowState). uncut_tri c.args.job.now c.args.kind r.row) c.self.view_is in
-    uncut_passes c.args.job.now c.args.kind c.args.self.now c.args.step.now c.requires.job c.requires.row
-    (subst (λ (t : Tri). Passes c.args.job.now.cutter c.args.step.now t) row_is (c.passes_tri.ensures.yes passed))
+    let row_is = c.uncut_triangle.ensures ∙ ap (λ (r : RowState). uncut_tri c.args.job.now.fields c.args.kind r.row) c.self.view_is in
+    uncut_passes c.args.job.now.fields c.args.kind c.args.self.now c.args.step.now c.args.job.now.is_job c.requires.row
+    (subst (λ (t : Tri). Passes c.args.job.now.fields.cutter c.args.step.now t) row_is (c.passes_tri.ensures.yes passed))
 
 pub returns-in-Feed : goal.returns-in-Feed
 returns-in-Feed c = λ passed.
     let under : c.tested_height.result ≤ℤ c.lower_end.result = omega (passed, arith, ints) in
-    let top = kept w32 c.args.job.now.top MAX_COORDINATE (within_of_unit c.args.job.now.unit c.args.job.now.top c.requires.job.top_ok).within refl in
-    let value = c.tested_height.ensures.value ∙ ap (tested_height c.args.job.now c.args.kind) top in
-    low_passes_row c.args.job.now c.args.kind c.args.self.now c.args.step.now c.requires.job c.requires.row c.requires.step
+    let top = kept w32 c.args.job.now.fields.top MAX_COORDINATE (within_of_unit c.args.job.now.fields.unit c.args.job.now.fields.top c.args.job.now.is_job.top_ok).within refl in
+    let value = c.tested_height.ensures.value ∙ ap (tested_height c.args.job.now.fields c.args.kind) top in
+    low_passes_row c.args.job.now.fields c.args.kind c.args.self.now c.args.step.now c.args.job.now.is_job c.requires.row c.requires.step
     (subst (λ (z : ℤ). z ≤ℤ c.args.step.now.from.z) value (over _ _ _ under c.lower_end.ensures.from))
     (subst (λ (z : ℤ). z ≤ℤ c.args.step.now.to.z) value (over _ _ _ under c.lower_end.ensures.to))
   where

@@ -13,5 +13,5 @@ returns c =
     let z : stored w32 c.height_at.result ≡ c.height_at.result = omega (arith, ints) in
     same_point
     (x ∙ c.column_x.ensures.value)
-    (y ∙ c.row_y.ensures.value ∙ ap (λ (r : RowState). column_y c.args.job.now r.row) c.self.view_is)
+    (y ∙ c.row_y.ensures.value ∙ ap (λ (r : RowState). column_y c.args.job.now.fields r.row) c.self.view_is)
     (z ∙ c.height_at.ensures)

@@ -4,11 +4,11 @@ use Rattle.mill_base.proofs.Ranges.{greatest_of-le}
 use Rattle.mill_job.proofs.job.Job.row_y.Goals as goal
 
 pub position-requires-clause-first_ok : goal.position-requires-clause-first_ok
-position-requires-clause-first_ok c = record { within = omega (arith, ints, greatest_of-le c.args.self.now.unit, c.requires.job.y0_ok) }
+position-requires-clause-first_ok c = record { within = omega (arith, ints, greatest_of-le c.args.self.now.fields.unit, c.args.self.now.is_job.y0_ok) }
 
 pub position-requires-clause-last_ok : goal.position-requires-clause-last_ok
-position-requires-clause-last_ok c = record { within = omega (arith, ints, greatest_of-le c.args.self.now.unit, c.requires.job.y1_ok) }
+position-requires-clause-last_ok c = record { within = omega (arith, ints, greatest_of-le c.args.self.now.fields.unit, c.args.self.now.is_job.y1_ok) }
 
 -- It lies between the ends of its area, which are in range.
 pub returns-clause-in_range : goal.returns-clause-in_range
-returns-clause-in_range c = record { within = omega (arith, ints, greatest_of-le c.args.self.now.unit, c.requires.job.y0_ok, c.requires.job.y1_ok) }
+returns-clause-in_range c = record { within = omega (arith, ints, greatest_of-le c.args.self.now.fields.unit, c.args.self.now.is_job.y0_ok, c.args.self.now.is_job.y1_ok) }

@@ -63,23 +63,23 @@ past_tool tool fiber part from to old new is e far t =
 pub returns-in_err-runs-clause-beside : goal.returns-in_err-runs-clause-beside
 returns-in_err-runs-clause-beside g c far =
     let across = to_z-of_z w16 c.args.across c.ranges.across in
-    past_tool c.bare-tool.result c.fiber.result c.part-2.result.now _ _ c.args.steps.now c.push.new.steps c.bare-tool.ensures (cc (c.part-2.ensures, c.in_ok-shape.ensures, c.in_ok-part.ensures, c.point.ensures.value))
+    past_tool c.bare-tool.result c.fiber.result c.in_ok-part.part _ _ c.args.steps.now c.push.new.steps c.bare-tool.ensures (cc (c.in_ok-part.ensures, c.point.ensures.value))
     (beside c.fiber.result _ _ c.fiber.ensures.axis (rw (c.fiber.ensures.at, across) far)) c.push.ensures.near
 
 pub returns-in_err-runs-clause-over : goal.returns-in_err-runs-clause-over
 returns-in_err-runs-clause-over g c far =
     let z = to_z-of_z w16 c.args.z c.ranges.z in
-    past_tool c.bare-tool.result c.fiber.result c.part-2.result.now _ _ c.args.steps.now c.push.new.steps c.bare-tool.ensures (cc (c.part-2.ensures, c.in_ok-shape.ensures, c.in_ok-part.ensures, c.point.ensures.value))
+    past_tool c.bare-tool.result c.fiber.result c.in_ok-part.part _ _ c.args.steps.now c.push.new.steps c.bare-tool.ensures (cc (c.in_ok-part.ensures, c.point.ensures.value))
     (over c.fiber.result _ _ (rw (c.fiber.ensures.z, z) far)) c.push.ensures.near
 
 pub returns-clause-beside : goal.returns-clause-beside
 returns-clause-beside g c far =
     let across = to_z-of_z w16 c.args.across c.ranges.across in
-    past_tool c.bare-tool.result c.fiber.result c.part-2.result.now _ _ c.args.steps.now c.push.new.steps c.bare-tool.ensures (cc (c.part-2.ensures, c.in_ok-shape.ensures, c.in_ok-part.ensures, c.point.ensures.value))
+    past_tool c.bare-tool.result c.fiber.result c.in_ok-part.part _ _ c.args.steps.now c.push.new.steps c.bare-tool.ensures (cc (c.in_ok-part.ensures, c.point.ensures.value))
     (beside c.fiber.result _ _ c.fiber.ensures.axis (rw (c.fiber.ensures.at, across) far)) c.push.ensures.near
 
 pub returns-clause-over : goal.returns-clause-over
 returns-clause-over g c far =
     let z = to_z-of_z w16 c.args.z c.ranges.z in
-    past_tool c.bare-tool.result c.fiber.result c.part-2.result.now _ _ c.args.steps.now c.push.new.steps c.bare-tool.ensures (cc (c.part-2.ensures, c.in_ok-shape.ensures, c.in_ok-part.ensures, c.point.ensures.value))
+    past_tool c.bare-tool.result c.fiber.result c.in_ok-part.part _ _ c.args.steps.now c.push.new.steps c.bare-tool.ensures (cc (c.in_ok-part.ensures, c.point.ensures.value))
     (over c.fiber.result _ _ (rw (c.fiber.ensures.z, z) far)) c.push.ensures.near

@@ -1,57 +1,26 @@
 use Rattle.std.proofs.Common.{rules, w32}
 use Rattle.std.proofs.lemmas.Int.{to_z-of_z}
-use Rattle.mill_push.proofs.Probing.{on_ok, last_between, last_held, last_clear, last_cost}
+use lib.IntN.{◌-ℤ◌}
+use Rattle.mill_push.specs.declared.probe.Way.TheVariants.{On}
+use Rattle.mill_push.proofs.Probing.{on_ok, last_end, near_cost, search_of}
 use Rattle.mill_push.proofs.Stored.{stored, difference}
 use Rattle.mill_push.proofs.stretch.Pusher.last_near.Goals as goal
 
-pub place-last-requires-clause-self_ok : goal.place-last-requires-clause-self_ok
-place-last-requires-clause-self_ok g c =
+pub place-requires-clause-self_ok : goal.place-requires-clause-self_ok
+place-requires-clause-self_ok g c =
     let found = stored c.args.found c.requires.found_ok in
     let high = stored c.args.high c.requires.high_ok in
     let limit = difference c.args.found c.args.high c.requires.found_ok c.requires.high_ok in
     rw (found, high, limit) (on_ok c.args.found c.args.high c.requires.found_ok c.requires.high_ok c.requires.order)
 
-pub last_touched-requires-clause-held : goal.last_touched-requires-clause-held
-last_touched-requires-clause-held g c =
+pub returns-clause-end : goal.returns-clause-end
+returns-clause-end g c =
     let found = stored c.args.found c.requires.found_ok in
     let high = stored c.args.high c.requires.high_ok in
     let limit = difference c.args.found c.args.high c.requires.found_ok c.requires.high_ok in
-    let left = rw (found, high, limit) at c.near_end-left.ensures.left in
-    let at_held = rw (found, to_z-of_z w32 c.near_end-left.result.held (search rules)) at c.place-held.ensures.value in
-    rw (stored c.place-held.result c.place-held.ensures.in_range, at_held) left.touched
-
-pub returns-clause-between : goal.returns-clause-between
-returns-clause-between g c =
-    let found = stored c.args.found c.requires.found_ok in
-    let high = stored c.args.high c.requires.high_ok in
-    let limit = difference c.args.found c.args.high c.requires.found_ok c.requires.high_ok in
-    let left = rw (found, high, limit) at c.near_end-left.ensures.left in
-    let at_held = rw (found, to_z-of_z w32 c.near_end-left.result.held (search rules)) at c.place-held.ensures.value in
-    let at_free = rw (found, to_z-of_z w32 c.near_end-left.result.free (search rules)) at c.place-last.ensures.value in
-    let e = rw (stored c.place-held.result c.place-held.ensures.in_range, stored c.place-last.result c.place-last.ensures.in_range, at_held, at_free) at c.last_touched.ensures in
-    rw (to_z-of_z w32 c.last_touched.result (search rules)) (last_between c.args.self.cutter c.args.tri.now c.args.self.fiber c.args.found c.args.high c.near_end-left.result left c.last_touched.result e.between)
-
-pub returns-clause-held : goal.returns-clause-held
-returns-clause-held g c =
-    let found = stored c.args.found c.requires.found_ok in
-    let high = stored c.args.high c.requires.high_ok in
-    let limit = difference c.args.found c.args.high c.requires.found_ok c.requires.high_ok in
-    let left = rw (found, high, limit) at c.near_end-left.ensures.left in
-    let at_held = rw (found, to_z-of_z w32 c.near_end-left.result.held (search rules)) at c.place-held.ensures.value in
-    let at_free = rw (found, to_z-of_z w32 c.near_end-left.result.free (search rules)) at c.place-last.ensures.value in
-    let e = rw (stored c.place-held.result c.place-held.ensures.in_range, stored c.place-last.result c.place-last.ensures.in_range, at_held, at_free) at c.last_touched.ensures in
-    rw (to_z-of_z w32 c.last_touched.result (search rules)) (last_held c.args.self.cutter c.args.tri.now c.args.self.fiber c.args.found c.args.high c.near_end-left.result left c.last_touched.result c.requires.held e.held)
-
-pub returns-clause-clear : goal.returns-clause-clear
-returns-clause-clear g c =
-    let found = stored c.args.found c.requires.found_ok in
-    let high = stored c.args.high c.requires.high_ok in
-    let limit = difference c.args.found c.args.high c.requires.found_ok c.requires.high_ok in
-    let left = rw (found, high, limit) at c.near_end-left.ensures.left in
-    let at_held = rw (found, to_z-of_z w32 c.near_end-left.result.held (search rules)) at c.place-held.ensures.value in
-    let at_free = rw (found, to_z-of_z w32 c.near_end-left.result.free (search rules)) at c.place-last.ensures.value in
-    let e = rw (stored c.place-held.result c.place-held.ensures.in_range, stored c.place-last.result c.place-last.ensures.in_range, at_held, at_free) at c.last_touched.ensures in
-    rw (to_z-of_z w32 c.last_touched.result (search rules)) (last_clear c.args.self.cutter c.args.tri.now c.args.self.fiber c.args.found c.args.high c.near_end-left.result left c.last_touched.result e.clear)
+    let left = rw (found, high, limit) at c.halved-count.ensures.end in
+    let at = rw (found, to_z-of_z w32 c.halved-count.result (search rules)) at c.place.ensures.value in
+    rw (to_z-of_z w32 c.place.result (search rules), at) (last_end c.args.self.cutter c.args.tri.now c.args.self.fiber c.args.found c.args.high c.halved-count.result c.requires.held left)
 
 pub returns-clause-cost : goal.returns-clause-cost
 returns-clause-cost g c =
@@ -59,7 +28,4 @@ returns-clause-cost g c =
     let high = stored c.args.high c.requires.high_ok in
     let limit = difference c.args.found c.args.high c.requires.found_ok c.requires.high_ok in
     let left = rw (found, high, limit) at c.near_end-left.ensures.left in
-    let at_held = rw (found, to_z-of_z w32 c.near_end-left.result.held (search rules)) at c.place-held.ensures.value in
-    let at_free = rw (found, to_z-of_z w32 c.near_end-left.result.free (search rules)) at c.place-last.ensures.value in
-    let e = rw (stored c.place-held.result c.place-held.ensures.in_range, stored c.place-last.result c.place-last.ensures.in_range, at_held, at_free) at c.last_touched.ensures in
-    last_cost c.args.self.cutter c.args.tri.now c.args.self.fiber c.args.found c.args.high c.near_end-left.result left c.args.steps.now c.near_end-left.new.steps c.last_touched.new.steps c.args.aims.probes c.near_end-left.ensures.cost e.cost
+    near_cost c.args.self.cutter c.args.tri.now c.args.self.fiber (search_of On c.args.found (c.args.high -ℤ c.args.found)) c.near_end-left.result c.args.steps.now c.near_end-left.new.steps c.halved-count.new.steps c.args.aims.probes left c.near_end-left.ensures.cost c.halved-count.ensures.cost

@@ -27,9 +27,9 @@ pub returns-in-Inside-clause-stretch : goal.returns-in-Inside-clause-stretch
 returns-in-Inside-clause-stretch g c =
     let i = rw (stored c.args.from c.requires.from_ok, stored c.args.to c.requires.to_ok) at c.loop-low.invariant in
     let middle = to_z-of_z w32 c.middle-middle.result (search rules) in
-    let left = rw middle at c.first_near-first.ensures in
-    let right = rw middle at c.last_near-last.ensures in
-    rw (to_z-of_z w32 c.first_near-first.result (search rules), to_z-of_z w32 c.last_near-last.result (search rules)) (found_stretch c.args.self.cutter c.args.tri.now c.args.self.fiber c.middle-middle.result c.first_near-first.result c.last_near-last.result left.between.from left.between.to right.between.from right.between.to left.held right.held left.clear right.clear i)
+    let left = rw middle at c.first_near-first.ensures.end in
+    let right = rw middle at c.last_near-last.ensures.end in
+    rw (to_z-of_z w32 c.first_near-first.result (search rules), to_z-of_z w32 c.last_near-last.result (search rules)) (found_stretch c.args.self.cutter c.args.tri.now c.args.self.fiber c.middle-middle.result c.first_near-first.result c.last_near-last.result left right i)
 
 pub returns-in-Inside-clause-cost : goal.returns-in-Inside-clause-cost
 returns-in-Inside-clause-cost g c =

@@ -24,9 +24,9 @@ returns-in-Inside-clause-stretch g c =
     let from = stored c.args.from c.requires.from_ok in
     let to = stored c.args.to c.requires.to_ok in
     let start = to_z-of_z w32 c.args.start c.ranges.start in
-    let left = rw (from, start) at c.first_near-first.ensures in
-    let right = rw (to, start) at c.last_near-last.ensures in
-    rw (to_z-of_z w32 c.first_near-first.result (search rules), to_z-of_z w32 c.last_near-last.result (search rules)) (start_found c.args.self.cutter c.args.tri.now c.args.self.fiber c.args.from c.args.to c.args.start c.first_near-first.result c.last_near-last.result left.between.from left.between.to right.between.from right.between.to left.held right.held left.clear right.clear)
+    let left = rw (from, start) at c.first_near-first.ensures.end in
+    let right = rw (to, start) at c.last_near-last.ensures.end in
+    rw (to_z-of_z w32 c.first_near-first.result (search rules), to_z-of_z w32 c.last_near-last.result (search rules)) (start_found c.args.self.cutter c.args.tri.now c.args.self.fiber c.args.from c.args.to c.args.start c.first_near-first.result c.last_near-last.result left right)
 
 pub returns-in-Inside-clause-cost : goal.returns-in-Inside-clause-cost
 returns-in-Inside-clause-cost g c =

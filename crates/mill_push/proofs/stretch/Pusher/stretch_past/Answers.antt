@@ -15,9 +15,9 @@ returns-then-not-is_touched-clause-stretch g c =
     let l = last_within c.args.rest c.args.run c.requires.rest_ok c.requires.inside in
     let to = stored c.args.rest.last c.requires.rest_ok.last_ok in
     let before = rw (stored c.args.run.first f, less_one c.args.run.first f) at c.if-not-is_touched.ensures.no in
-    let right = rw (to, stored c.args.run.last l, and_one c.args.run.last l) at c.last_near-last.ensures in
+    let right = rw (to, stored c.args.run.last l, and_one c.args.run.last l) at c.last_near-last.ensures.end in
     rw (stored c.args.run.last l, and_one c.args.run.last l, to_z-of_z w32 c.last_near-last.result (search rules))
-    (only_past c.args.self.cutter c.args.tri.now c.args.self.fiber c.args.rest c.args.run c.requires.inside c.last_near-last.result c.requires.held (before refl) right.between.from right.between.to right.held right.clear)
+    (only_past c.args.self.cutter c.args.tri.now c.args.self.fiber c.args.rest c.args.run c.requires.inside c.last_near-last.result c.requires.held (before refl) right)
 
 pub returns-then-not-is_touched-clause-cost : goal.returns-then-not-is_touched-clause-cost
 returns-then-not-is_touched-clause-cost g c =
@@ -35,10 +35,10 @@ pub returns-clause-stretch : goal.returns-clause-stretch
 returns-clause-stretch g c =
     let f = first_within c.args.rest c.args.run c.requires.rest_ok c.requires.inside in
     let l = last_within c.args.rest c.args.run c.requires.rest_ok c.requires.inside in
-    let left = rw (stored c.args.rest.first c.requires.rest_ok.first_ok, stored c.args.run.first f, less_one c.args.run.first f) at c.first_near-first.ensures in
-    let right = rw (stored c.args.rest.last c.requires.rest_ok.last_ok, stored c.args.run.last l, and_one c.args.run.last l) at c.last_near-last.ensures in
+    let left = rw (stored c.args.rest.first c.requires.rest_ok.first_ok, stored c.args.run.first f, less_one c.args.run.first f) at c.first_near-first.ensures.end in
+    let right = rw (stored c.args.rest.last c.requires.rest_ok.last_ok, stored c.args.run.last l, and_one c.args.run.last l) at c.last_near-last.ensures.end in
     rw (to_z-of_z w32 c.first_near-first.result (search rules), to_z-of_z w32 c.last_near-last.result (search rules))
-    (on_both c.args.self.cutter c.args.tri.now c.args.self.fiber c.args.rest c.args.run c.requires.inside c.first_near-first.result c.last_near-last.result left.between.from left.between.to right.between.from right.between.to left.held right.held left.clear right.clear)
+    (on_both c.args.self.cutter c.args.tri.now c.args.self.fiber c.args.rest c.args.run c.requires.inside c.first_near-first.result c.last_near-last.result left right)
 
 pub returns-clause-cost : goal.returns-clause-cost
 returns-clause-cost g c =

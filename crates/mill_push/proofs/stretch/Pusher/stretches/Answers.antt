@@ -14,14 +14,14 @@ loop-number-init g c =
     let to = stored c.args.to c.requires.to_ok in
     let strip = rw (from, to) at c.strip.ensures in
     let each = rw strip at c.near_rising-near.ensures.each in
-    rw (from, to, c.in_ok-known.ensures) (collect_starts c.args.self c.args.part.now c.args.from c.args.to c.args.cells.now c.near_rising-near.result c.args.steps.now c.requires.cells_ok c.near_rising-near.ensures.tops each c.near_rising-near.ensures.once)
+    rw (from, to, c.in_ok-known.ensures) (collect_starts c.args.self c.args.part.now c.args.from c.args.to c.cells.result.now c.near_rising-near.result c.args.steps.now c.cells.ensures c.near_rising-near.ensures.tops each c.near_rising-near.ensures.once)
 
 pub bounds-tris-number : goal.bounds-tris-number
 bounds-tris-number g c =
     let from = stored c.args.from c.requires.from_ok in
     let to = stored c.args.to c.requires.to_ok in
     let i = rw (from, to) at c.loop-number.invariant in
-    rw c.tris-tris.ensures.list (next_within c.args.self c.args.part.now c.args.from c.args.to c.in-Some.ensures i)
+    rw (c.tris-tris.ensures.list, c.part.ensures) (next_within c.args.self c.args.part.now c.args.from c.args.to c.in-Some.ensures i)
 
 pub new_stretch-requires-clause-tri_ok : goal.new_stretch-requires-clause-tri_ok
 new_stretch-requires-clause-tri_ok g c =
@@ -29,7 +29,7 @@ new_stretch-requires-clause-tri_ok g c =
     let to = stored c.args.to c.requires.to_ok in
     let i = rw (from, to) at c.loop-number.invariant in
     let inside = next_within c.args.self c.args.part.now c.args.from c.args.to c.in-Some.ensures i in
-    c.tris-tris.ensures.in_range _ (rw c.tris-tris.ensures.list (Contains-get_or c.args.part.now c.in-Some.number _ inside))
+    c.tris-tris.ensures.in_range _ (rw (c.tris-tris.ensures.list, c.part.ensures) (Contains-get_or c.args.part.now c.in-Some.number _ inside))
 
 pub new_stretch-requires-clause-known : goal.new_stretch-requires-clause-known
 new_stretch-requires-clause-known g c =
@@ -44,7 +44,7 @@ loop-number-preserved-in_default-new_stretch g c =
     let to = stored c.args.to c.requires.to_ok in
     let i = rw (from, to) at c.loop-number.invariant in
     let comes = rw (stored c.args.self.fiber.z c.requires.self_ok.fiber_ok.z_ok) at c.in-Some.ensures in
-    let known = rw (from, to, c.tris-tris.ensures.list) at c.in_default-new_stretch.ensures.stretch in
+    let known = rw (from, to, c.tris-tris.ensures.list, c.part.ensures) at c.in_default-new_stretch.ensures.stretch in
     let cost = rw (from, to) at c.in_default-new_stretch.ensures.cost in
     rw (from, to) (goes_on_without c.args.self c.args.part.now c.args.from c.args.to c.requires.self_ok comes i known cost)
 
@@ -68,7 +68,7 @@ loop-number-preserved g c =
     let to = stored c.args.to c.requires.to_ok in
     let i = rw (from, to) at c.loop-number.invariant in
     let comes = rw (stored c.args.self.fiber.z c.requires.self_ok.fiber_ok.z_ok) at c.in-Some.ensures in
-    let stretch = rw (from, to, c.tris-tris.ensures.list) at c.in-Some-new_stretch.ensures.stretch in
+    let stretch = rw (from, to, c.tris-tris.ensures.list, c.part.ensures) at c.in-Some-new_stretch.ensures.stretch in
     let cost = rw (from, to) at c.in-Some-new_stretch.ensures.cost in
     rw (from, to) (goes_on_with c.args.self c.args.part.now c.args.from c.args.to c.requires.self_ok comes i stretch c.in_ok-add.ensures cost)
 
@@ -78,7 +78,7 @@ returns-in_err-add-clause-cost g c =
     let to = stored c.args.to c.requires.to_ok in
     let i = rw (from, to) at c.loop-number.invariant in
     let comes = rw (stored c.args.self.fiber.z c.requires.self_ok.fiber_ok.z_ok) at c.in-Some.ensures in
-    let stretch = rw (from, to, c.tris-tris.ensures.list) at c.in-Some-new_stretch.ensures.stretch in
+    let stretch = rw (from, to, c.tris-tris.ensures.list, c.part.ensures) at c.in-Some-new_stretch.ensures.stretch in
     let cost = rw (from, to) at c.in-Some-new_stretch.ensures.cost in
     collect_cost c.args.self c.args.part.now c.args.from c.args.to (goes_on_with c.args.self c.args.part.now c.args.from c.args.to c.requires.self_ok comes i stretch (grown_by_one c.loop-number.known.runs.items _) cost)
 

@@ -6,9 +6,9 @@ use Rattle.mill_verify.proofs.Scanning.{inside, stops_at}
 use Rattle.mill_verify.proofs.block.Block.turn.Goals as goal
 
 pub returns-clause-clears : goal.returns-clause-clears
-returns-clause-clears c = λ passed. at_move (λ m. ToolPassesPart (tool_of c.args.job.now) m c.args.part.now) c.args.moves.now c.args.t _ (inside c.requires.there c.requires.within) c.in_default.ensures
+returns-clause-clears c = λ passed. at_move (λ m. ToolPassesPart (tool_of c.args.job.now.fields) m c.args.part.now) c.args.moves.now c.args.t _ (inside c.requires.there c.requires.within) c.in_default.ensures
 
 pub returns-in-Some-clause-stopped : goal.returns-in-Some-clause-stopped
 returns-in-Some-clause-stopped c = λ failed.
-    stops_at c.args.job.now c.args.part.now c.args.moves.now c.args.self.now _ c.args.t c.in-Some.fail c.self.view_is c.requires.next
-    (at_move (λ m. IsPartFail c.args.job.now c.args.part.now m c.in-Some.fail) c.args.moves.now c.args.t _ (inside c.requires.there c.requires.within) c.in-Some.ensures)
+    stops_at c.args.job.now.fields c.args.part.now c.args.moves.now c.args.self.now _ c.args.t c.in-Some.fail c.self.view_is c.requires.next
+    (at_move (λ m. IsPartFail c.args.job.now.fields c.args.part.now m c.in-Some.fail) c.args.moves.now c.args.t _ (inside c.requires.there c.requires.within) c.in-Some.ensures)

@@ -9,7 +9,7 @@ use Rattle.mill_verify.proofs.work.TestsWork.pass_over.Goals as goal
 
 pub go_over-requires-clause-row : goal.go_over-requires-clause-row
 go_over-requires-clause-row c =
-    let w : TestsShown = record { job = c.self.inside.job.now; part = c.self.inside.part.now; start = rows_at c.self.inside.start.now; moves = c.self.inside.bands.moves; turns = c.self.inside.bands.count } in
+    let w : TestsShown = record { job = c.self.inside.job.now.fields; part = c.self.inside.part.now; start = rows_at c.self.inside.start.now; moves = c.self.inside.bands.moves; turns = c.self.inside.bands.count } in
     let t : ℕ = c.args.turn in
     let n : ℕ = c.requires.0 in
     let due = subst (λ (x : TestsShown). IsDue tests x n t (Stock c.in-Stock.number c.in-Stock.row)) (sym c.self.view_is) (subst (λ (p : Piece). IsDue tests c.args.self.now n t p) c.in-Stock.is c.requires.1) in
@@ -17,7 +17,7 @@ go_over-requires-clause-row c =
 
 pub go_over-requires-clause-next : goal.go_over-requires-clause-next
 go_over-requires-clause-next c =
-    let w : TestsShown = record { job = c.self.inside.job.now; part = c.self.inside.part.now; start = rows_at c.self.inside.start.now; moves = c.self.inside.bands.moves; turns = c.self.inside.bands.count } in
+    let w : TestsShown = record { job = c.self.inside.job.now.fields; part = c.self.inside.part.now; start = rows_at c.self.inside.start.now; moves = c.self.inside.bands.moves; turns = c.self.inside.bands.count } in
     let t : ℕ = c.args.turn in
     let n : ℕ = c.requires.0 in
     let due = subst (λ (x : TestsShown). IsDue tests x n t (Stock c.in-Stock.number c.in-Stock.row)) (sym c.self.view_is) (subst (λ (p : Piece). IsDue tests c.args.self.now n t p) c.in-Stock.is c.requires.1) in
@@ -25,7 +25,7 @@ go_over-requires-clause-next c =
 
 pub returns-in-Stock-clause-passed : goal.returns-in-Stock-clause-passed
 returns-in-Stock-clause-passed c =
-    let w : TestsShown = record { job = c.self.inside.job.now; part = c.self.inside.part.now; start = rows_at c.self.inside.start.now; moves = c.self.inside.bands.moves; turns = c.self.inside.bands.count } in
+    let w : TestsShown = record { job = c.self.inside.job.now.fields; part = c.self.inside.part.now; start = rows_at c.self.inside.start.now; moves = c.self.inside.bands.moves; turns = c.self.inside.bands.count } in
     let over = c.go_over.ensures in
     subst (λ (x : TestsShown). (n : ℕ) → IsDue tests x n c.args.turn c.args.piece.now → HasPassedTo tests x n c.go_over.result (Stock c.in-Stock.number c.go_over.new.self)) c.self.view_is
     (λ n d. row_goes_over w n c.args.turn c.in-Stock.number c.in-Stock.row c.go_over.new.self c.go_over.result (subst (λ (p : Piece). IsDue tests w n c.args.turn p) c.in-Stock.is d) over.onward over.within over.clears over.is)

@@ -14,7 +14,7 @@ use Rattle.mill_verify.proofs.work.TestsWork.turn.Goals as goal
 
 pub turn_on-requires-clause-row : goal.turn_on-requires-clause-row
 turn_on-requires-clause-row c =
-    let w : TestsShown = record { job = c.self.inside.job.now; part = c.self.inside.part.now; start = rows_at c.self.inside.start.now; moves = c.self.inside.bands.moves; turns = c.self.inside.bands.count } in
+    let w : TestsShown = record { job = c.self.inside.job.now.fields; part = c.self.inside.part.now; start = rows_at c.self.inside.start.now; moves = c.self.inside.bands.moves; turns = c.self.inside.bands.count } in
     let t : ℕ = c.args.turn in
     let n : ℕ = c.requires.0 in
     let due = subst (λ (x : TestsShown). IsDue tests x n t (Stock c.in-Stock.number c.in-Stock.row)) (sym c.self.view_is) (subst (λ (p : Piece). IsDue tests c.args.self.now n t p) c.in-Stock.is c.requires.1) in
@@ -22,7 +22,7 @@ turn_on-requires-clause-row c =
 
 pub turn_on-requires-clause-left : goal.turn_on-requires-clause-left
 turn_on-requires-clause-left c =
-    let w : TestsShown = record { job = c.self.inside.job.now; part = c.self.inside.part.now; start = rows_at c.self.inside.start.now; moves = c.self.inside.bands.moves; turns = c.self.inside.bands.count } in
+    let w : TestsShown = record { job = c.self.inside.job.now.fields; part = c.self.inside.part.now; start = rows_at c.self.inside.start.now; moves = c.self.inside.bands.moves; turns = c.self.inside.bands.count } in
     let t : ℕ = c.args.turn in
     let n : ℕ = c.requires.0 in
     let due = subst (λ (x : TestsShown). IsDue tests x n t (Stock c.in-Stock.number c.in-Stock.row)) (sym c.self.view_is) (subst (λ (p : Piece). IsDue tests c.args.self.now n t p) c.in-Stock.is c.requires.1) in
@@ -30,24 +30,24 @@ turn_on-requires-clause-left c =
 
 pub returns-in-Block-clause-passed : goal.returns-in-Block-clause-passed
 returns-in-Block-clause-passed c e =
-    let w : TestsShown = record { job = c.self.inside.job.now; part = c.self.inside.part.now; start = rows_at c.self.inside.start.now; moves = c.self.inside.bands.moves; turns = c.self.inside.bands.count } in
+    let w : TestsShown = record { job = c.self.inside.job.now.fields; part = c.self.inside.part.now; start = rows_at c.self.inside.start.now; moves = c.self.inside.bands.moves; turns = c.self.inside.bands.count } in
     subst (λ (x : TestsShown). (n : ℕ) → IsDue tests x n c.args.turn c.args.piece.now → PassesTest x n c.args.turn × IsPieceAt x n (c.args.turn + 1) (Block c.in-Block.number c.turn.new.self)) c.self.view_is
     (λ n d. block_passes w n c.args.turn c.in-Block.number c.in-Block.block c.turn.new.self (subst (λ (p : Piece). IsDue tests w n c.args.turn p) c.in-Block.is d) (subst (λ (ms : List Move). ToolPassesPart (tool_of w.job) (move_at ms c.args.turn) w.part) c.moves-moves.ensures (c.turn.ensures.clears e)) (c.turn.ensures.passed e))
 
 pub returns-in-Block-clause-failed : goal.returns-in-Block-clause-failed
 returns-in-Block-clause-failed c e =
-    let w : TestsShown = record { job = c.self.inside.job.now; part = c.self.inside.part.now; start = rows_at c.self.inside.start.now; moves = c.self.inside.bands.moves; turns = c.self.inside.bands.count } in
+    let w : TestsShown = record { job = c.self.inside.job.now.fields; part = c.self.inside.part.now; start = rows_at c.self.inside.start.now; moves = c.self.inside.bands.moves; turns = c.self.inside.bands.count } in
     subst (λ (x : TestsShown). (n : ℕ) → IsDue tests x n c.args.turn c.args.piece.now → (¬ PassesTest x n c.args.turn) × IsPieceFailed x n c.args.turn (Block c.in-Block.number c.turn.new.self)) c.self.view_is
     (λ n d. block_fails w n c.args.turn c.in-Block.number c.in-Block.block c.turn.new.self (subst (λ (p : Piece). IsDue tests w n c.args.turn p) c.in-Block.is d) (subst (λ (ms : List Move). IsBlockStopped w.job w.part ms c.in-Block.block c.turn.new.self) c.moves-moves.ensures (c.turn.ensures.stopped e)))
 
 pub returns-in-Stock-clause-passed : goal.returns-in-Stock-clause-passed
 returns-in-Stock-clause-passed c e =
-    let w : TestsShown = record { job = c.self.inside.job.now; part = c.self.inside.part.now; start = rows_at c.self.inside.start.now; moves = c.self.inside.bands.moves; turns = c.self.inside.bands.count } in
+    let w : TestsShown = record { job = c.self.inside.job.now.fields; part = c.self.inside.part.now; start = rows_at c.self.inside.start.now; moves = c.self.inside.bands.moves; turns = c.self.inside.bands.count } in
     subst (λ (x : TestsShown). (n : ℕ) → IsDue tests x n c.args.turn c.args.piece.now → PassesTest x n c.args.turn × IsPieceAt x n (c.args.turn + 1) (Stock c.in-Stock.number c.turn_on.new.self)) c.self.view_is
     (λ n d. row_passes w n c.args.turn c.in-Stock.number c.in-Stock.row c.turn_on.new.self c.self.invariant.0.within (subst (λ (p : Piece). IsDue tests w n c.args.turn p) c.in-Stock.is d) (subst (λ (ms : List Move). ClearsRow w.job c.in-Stock.row (move_at ms c.args.turn)) c.moves-moves.ensures (c.turn_on.ensures.clears e)) (subst (λ (ms : List Move). c.turn_on.new.self ≡ turned w.job (move_at ms c.args.turn) c.in-Stock.row) c.moves-moves.ensures (c.turn_on.ensures.cut e)))
 
 pub returns-in-Stock-clause-failed : goal.returns-in-Stock-clause-failed
 returns-in-Stock-clause-failed c e =
-    let w : TestsShown = record { job = c.self.inside.job.now; part = c.self.inside.part.now; start = rows_at c.self.inside.start.now; moves = c.self.inside.bands.moves; turns = c.self.inside.bands.count } in
+    let w : TestsShown = record { job = c.self.inside.job.now.fields; part = c.self.inside.part.now; start = rows_at c.self.inside.start.now; moves = c.self.inside.bands.moves; turns = c.self.inside.bands.count } in
     subst (λ (x : TestsShown). (n : ℕ) → IsDue tests x n c.args.turn c.args.piece.now → (¬ PassesTest x n c.args.turn) × IsPieceFailed x n c.args.turn (Stock c.in-Stock.number c.turn_on.new.self)) c.self.view_is
     (λ n d. row_fails w n c.args.turn c.in-Stock.number c.in-Stock.row c.turn_on.new.self (subst (λ (p : Piece). IsDue tests w n c.args.turn p) c.in-Stock.is d) (subst (λ (ms : List Move). IsRowStopped w.job (move_at ms c.args.turn) c.in-Stock.row c.turn_on.new.self) c.moves-moves.ensures (c.turn_on.ensures.stopped e)))

@@ -1,0 +1,8 @@
+mod Ends
+mod Parts
+pub mod Told
+pub mod Counts
+pub mod ExitCodes
+pub mod Answering
+pub mod Named
+pub mod OneJudgments

@@ -1,6 +1,0 @@
-use Rattle.std.specs.Prelude.{◌≡◌, ◌++◌, map, take}
-use Rattle.mill_c.specs.Fibers.{run_of}
-use Rattle.mill_c.proofs.runs.add_runs.Given as goal
-
-abbrev pub invariant-loop-run : goal.invariant-loop-run
-invariant-loop-run l = map run_of l.runs.items ≡ map run_of l.fn.runs.items ++ take l.run-index l.found

@@ -1,6 +1,0 @@
-use Rattle.std.specs.Prelude.{All, take}
-use Rattle.mill_c.specs.Fibers.{IsSoundFiber}
-use Rattle.mill_c.proofs.runs.are_fibers.Given as goal
-
-abbrev pub invariant-loop-raw : goal.invariant-loop-raw
-invariant-loop-raw l = All IsSoundFiber (take l.raw-index l.raws)

@@ -1,6 +1,0 @@
-use Rattle.mill_c_data.proofs.Parts.{IsTriOf}
-use Rattle.mill_c.proofs.Written.{AreWrittenTo}
-use Rattle.mill_c.proofs.text.write_all.Given as goal
-
-abbrev pub invariant-loop-i : goal.invariant-loop-i
-invariant-loop-i l = AreWrittenTo IsTriOf l.tris l.triangles l.i

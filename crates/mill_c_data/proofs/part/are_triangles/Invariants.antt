@@ -1,6 +1,0 @@
-use Rattle.std.specs.Prelude.{All, take}
-use Rattle.mill_c_data.specs.Raw.{IsTriangle}
-use Rattle.mill_c_data.proofs.part.are_triangles.Given as goal
-
-abbrev pub invariant-loop-raw : goal.invariant-loop-raw
-invariant-loop-raw l = All IsTriangle (take l.raw-index l.raws)

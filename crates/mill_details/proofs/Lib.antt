@@ -1,4 +1,0 @@
-mod LeafLemmas
-mod Naming
-mod Tops
-mod Lists

@@ -1,0 +1,96 @@
+-- A leaf to which a move's failing halves lead is one of the last halving, or of one before.
+use Rattle.std.proofs.Common.{◌≡◌, ℕ, zero, suc, ◌+◌, ◌*◌, ◌^◌, ◌≤◌, ◌<◌, Bool, true, false, refl, sym, subst, inl, inr, arith}
+use Rattle.std.proofs.lemmas.Bool.{cases_lt}
+use Rattle.std.proofs.lemmas.Bool.Decides.{nat_tests}
+use Rattle.std.proofs.lemmas.Grind.{pow_more}
+use Rattle.std.proofs.lemmas.Int.{ints}
+use Rattle.std.specs.Prelude.{ℤ, ◌+ℤ◌, ◌-ℤ◌, ◌&&◌, nat_abs, nat_le}
+use Rattle.mill_base.specs.Numbers.{least_from}
+use Rattle.mill_base.specs.Ranges.{MoveInRange}
+use Rattle.mill_base.specs.Tools.{solid_of}
+use Rattle.mill_base.specs.declared.cutter.Cutter.{Cutter}
+use Rattle.mill_base.specs.declared.limits.TheConstants.{MAX_COORDINATE, MAX_DEPTH}
+use Rattle.mill_base.specs.declared.motion.Move.{Move}
+use Rattle.mill_base.specs.declared.points.Tri.{Tri}
+use Rattle.mill_base.specs.declared.tool.Holder.{Holder}
+use Rattle.mill_document.specs.inner.Leaves.{IsLeaf}
+use Rattle.mill_sweep.specs.Halving.{FailsAt, LeadsTo}
+use Rattle.mill_sweep.specs.Holders.{HolderFailsAt, lifted}
+use Rattle.mill_sweep.specs.Leaves.{depth_of, length_x, length_y, length_z}
+use Rattle.mill_sweep.specs.declared.leaf.Leaf.{Leaf}
+
+-- ---- how deep a move is halved
+
+differ : (b : Bool) → b ≡ true → b ≡ false → ⊥
+differ true p q = cc
+differ false p q = cc
+
+-- the least number that passes a test is no more than one that does
+least_at : (test : ℕ → Bool) (more start e : ℕ) → start ≤ e → e < start + more → test e ≡ true → least_from test more start ≤ e
+least_at test zero start e low high passes = absurd (omega arith)
+least_at test (suc more) start e low high passes = by (least_at test more) (test start) refl
+  where
+    by : ((s i : ℕ) → s ≤ i → i < s + more → test i ≡ true → least_from test more s ≤ i)
+        → (b : Bool) → test start ≡ b → (elim b as (λ _. ℕ) [ true ↦ start | false ↦ least_from test more (start + 1) ]) ≤ e
+    by rest true q = low
+    by rest false q = elim (cases_lt start e) [
+      | inl less ↦ rest (start + 1) e (omega arith) (omega arith) passes
+      | inr same ↦ let at : e ≡ start = omega arith in absurd (differ (test start) (subst (λ i. test i ≡ true) at passes) q)
+    ]
+
+all_within : (x y z n : ℕ) → x ≤ n → y ≤ n → z ≤ n → (nat_le x n && nat_le y n && nat_le z n) ≡ true
+all_within x y z n h k l = grind (arith, nat_tests)
+
+depth_by : (m : Move) → length_x m ≤ 2 ^ MAX_DEPTH → length_y m ≤ 2 ^ MAX_DEPTH → length_z m ≤ 2 ^ MAX_DEPTH → depth_of m ≤ MAX_DEPTH
+depth_by m x y z =
+    least_at (λ d. nat_le (length_x m) (2 ^ d) && nat_le (length_y m) (2 ^ d) && nat_le (length_z m) (2 ^ d)) 64 0 MAX_DEPTH (omega arith) (omega arith)
+    (all_within (length_x m) (length_y m) (length_z m) (2 ^ MAX_DEPTH) x y z)
+
+near : (a b : ℤ) → nat_abs a ≤ MAX_COORDINATE → nat_abs b ≤ MAX_COORDINATE → nat_abs (b -ℤ a) ≤ 2 ^ MAX_DEPTH
+near a b a_ok b_ok = omega (arith, ints)
+
+near_lifted : (a b h : ℤ) → nat_abs a ≤ MAX_COORDINATE → nat_abs b ≤ MAX_COORDINATE → nat_abs ((b +ℤ h) -ℤ (a +ℤ h)) ≤ 2 ^ MAX_DEPTH
+near_lifted a b h a_ok b_ok = omega (arith, ints)
+
+depth_most : (m : Move) → MoveInRange m → depth_of m ≤ MAX_DEPTH
+depth_most m range =
+    depth_by m (near m.from.x m.to.x range.from_ok.x_ok.within range.to_ok.x_ok.within) (near m.from.y m.to.y range.from_ok.y_ok.within range.to_ok.y_ok.within)
+    (near m.from.z m.to.z range.from_ok.z_ok.within range.to_ok.z_ok.within)
+
+depth_most_lifted : (holder : Holder) (m : Move) → MoveInRange m → depth_of (lifted holder m) ≤ MAX_DEPTH
+depth_most_lifted holder m range =
+    depth_by (lifted holder m) (near m.from.x m.to.x range.from_ok.x_ok.within range.to_ok.x_ok.within) (near m.from.y m.to.y range.from_ok.y_ok.within range.to_ok.y_ok.within)
+    (near_lifted m.from.z m.to.z holder.stickout range.from_ok.z_ok.within range.to_ok.z_ok.within)
+
+-- ---- the leaf
+
+half : (d k : ℕ) → k < 2 ^ d → 2 * k + 1 < 2 ^ (d + 1)
+half d k lt = let twice = pow_more 2 d in omega arith
+
+leads_within : (cutter : Cutter) (m : Move) (tri : Tri) (more d k : ℕ) (leaf : Leaf) → LeadsTo cutter m tri more d k leaf → k < 2 ^ d → (leaf.d ≤ d + more) × (leaf.k < 2 ^ leaf.d)
+leads_within cutter m tri zero d k leaf h lt =
+    let deep = h.0 in
+    let number = h.1 in
+    (omega arith, subst (λ e. leaf.k < 2 ^ e) (sym deep) (omega arith))
+leads_within cutter m tri (suc more) d k leaf (inl left) lt =
+    let next = half d k lt in
+    let h = leads_within cutter m tri more (d + 1) (2 * k) leaf left.1 (omega arith) in
+    let deep = h.0 in
+    (omega arith, h.1)
+leads_within cutter m tri (suc more) d k leaf (inr right) lt =
+    let next = half d k lt in
+    let h = leads_within cutter m tri more (d + 1) (2 * k + 1) leaf right.1 (omega arith) in
+    let deep = h.0 in
+    (omega arith, h.1)
+
+leaf_within : (cutter : Cutter) (m : Move) (tri : Tri) (leaf : Leaf) → depth_of m ≤ MAX_DEPTH → FailsAt cutter m tri leaf → IsLeaf leaf
+leaf_within cutter m tri leaf deep fails =
+    let h = leads_within cutter m tri (depth_of m) 0 0 leaf fails.leads (omega arith) in
+    let least = h.0 in
+    record { depth = omega arith; number = h.1 }
+
+pub failing_leaf : (cutter : Cutter) (m : Move) (tri : Tri) (leaf : Leaf) → MoveInRange m → FailsAt cutter m tri leaf → IsLeaf leaf
+failing_leaf cutter m tri leaf range fails = leaf_within cutter m tri leaf (depth_most m range) fails
+
+pub held_leaf : (holder : Holder) (m : Move) (tri : Tri) (leaf : Leaf) → MoveInRange m → HolderFailsAt holder m tri leaf → IsLeaf leaf
+held_leaf holder m tri leaf range fails = leaf_within (solid_of holder) (lifted holder m) tri leaf (depth_most_lifted holder m range) fails

@@ -1,3 +1,0 @@
-pub mod Stored
-pub mod ExtentCerts
-pub mod Extents

@@ -1,6 +1,0 @@
-mod RisingCerts
-mod Rising
-mod Leasts
-mod Clear
-mod Rooms
-mod Bisecting

@@ -1,5 +1,0 @@
-use Rattle.mill_lift.proofs.Rooms.{hundredths_have_room}
-use Rattle.mill_lift.proofs.laws.hundredths_have_room.Goals as goal
-
-pub returns : goal.returns
-returns c = hundredths_have_room

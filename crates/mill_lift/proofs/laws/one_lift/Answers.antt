@@ -1,5 +1,0 @@
-use Rattle.mill_lift.proofs.Leasts.{one_lift}
-use Rattle.mill_lift.proofs.laws.one_lift.Goals as goal
-
-pub returns : goal.returns
-returns c = one_lift

@@ -1,5 +1,0 @@
-use Rattle.mill_lift.proofs.Leasts.{over_part_passes}
-use Rattle.mill_lift.proofs.laws.over_part_passes.Goals as goal
-
-pub returns : goal.returns
-returns c = over_part_passes

@@ -1,5 +1,0 @@
-use Rattle.mill_lift.proofs.Leasts.{passes_from_lift}
-use Rattle.mill_lift.proofs.laws.passes_from_lift.Goals as goal
-
-pub returns : goal.returns
-returns c = passes_from_lift

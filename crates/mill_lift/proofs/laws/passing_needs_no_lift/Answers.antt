@@ -1,5 +1,0 @@
-use Rattle.mill_lift.proofs.Leasts.{passing_needs_no_lift}
-use Rattle.mill_lift.proofs.laws.passing_needs_no_lift.Goals as goal
-
-pub returns : goal.returns
-returns c = passing_needs_no_lift

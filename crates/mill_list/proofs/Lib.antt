@@ -1,4 +1,0 @@
-mod Faults
-mod InTurn
-mod Meaning
-pub mod OneList

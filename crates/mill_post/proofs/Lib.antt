@@ -1,4 +1,0 @@
-mod TextLemmas
-mod Cutting
-mod Numerals
-mod Moves

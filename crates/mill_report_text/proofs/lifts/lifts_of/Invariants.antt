@@ -1,7 +1,0 @@
-use Rattle.std.specs.List.{AllZip}
-use Rattle.std.specs.Prelude.{take}
-use Rattle.mill_report_text.specs.Reports.{IsLift}
-use Rattle.mill_report_text.proofs.lifts.lifts_of.Given as goal
-
-abbrev pub invariant-loop-index : goal.invariant-loop-index
-invariant-loop-index l = AllZip (IsLift l.job l.part l.moves) (take l.index l.found) l.lifts.items

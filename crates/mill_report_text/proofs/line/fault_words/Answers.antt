@@ -1,5 +1,0 @@
-use Rattle.mill_report_text.proofs.LineEnds.{bare, fault_ends}
-use Rattle.mill_report_text.proofs.line.fault_words.Goals as goal
-
-pub returns : goal.returns
-returns c = bare _ c.in_ok-line.line.items c.drop_feed.new.line.items (fault_ends c.args.fault.now) c.in_ok-line.ensures c.drop_feed.ensures

@@ -1,5 +1,0 @@
-use Rattle.mill_report_text.proofs.LineEnds.{bare, verdict_ends}
-use Rattle.mill_report_text.proofs.line.verdict_words.Goals as goal
-
-pub returns : goal.returns
-returns c = bare _ c.in_ok-line.line.items c.drop_feed.new.line.items (verdict_ends c.args.job.now c.args.moves.now c.args.verdict) c.in_ok-line.ensures c.drop_feed.ensures

@@ -1,4 +1,0 @@
-pub mod Reports
-pub mod Sources
-pub mod ReportFiles
-pub mod inner

@@ -1,4 +1,0 @@
--- What private functions and proofs cite alone: no clause of a public call leads here.
-pub mod Judged
-pub mod Lifts
-pub mod Lists

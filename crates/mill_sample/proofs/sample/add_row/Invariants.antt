@@ -1,7 +1,0 @@
-use Rattle.std.proofs.Common.{◌≡◌, ◌++◌, take}
-use Rattle.std.specs.List.{flat_map, range_with_len}
-use Rattle.mill_sample.specs.Sample.{sample_square}
-use Rattle.mill_sample.proofs.sample.add_row.Given as goal
-
-abbrev pub invariant-loop-column : goal.invariant-loop-column
-invariant-loop-column l = l.tris.items ≡ l.fn.tris.items ++ flat_map (sample_square l.row) (take l.column (range_with_len 0 l.size))

@@ -1,7 +1,0 @@
-use Rattle.std.proofs.Common.{◌≡◌, take}
-use Rattle.std.specs.List.{flat_map, range_with_len}
-use Rattle.mill_sample.specs.Sample.{sample_row}
-use Rattle.mill_sample.proofs.sample.sample_part.Given as goal
-
-abbrev pub invariant-loop-row : goal.invariant-loop-row
-invariant-loop-row l = l.tris.items ≡ flat_map (sample_row l.size) (take l.row (range_with_len 0 l.size))

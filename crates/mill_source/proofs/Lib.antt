@@ -1,3 +1,0 @@
-mod LineEnds
-mod Ends
-mod WalkLemmas
