@@ -31,10 +31,20 @@ def found(name):
     return built(name) if name in LAUNCHED else os.path.join(ROOT, name)
 
 
+def is_in_dist(name):
+    """Returns whether the checkout's dist/ has a program, built of the sources as they are: tools/launch says so."""
+    asked = 'root=$1; . "$root/tools/launch"; is_in_dist "$2"'
+    ran = subprocess.run(["bash", "-c", asked, "bash", ROOT, name], stdout=subprocess.DEVNULL, stderr=subprocess.DEVNULL, check=False)
+    return ran.returncode == 0
+
+
 def is_built(name):
-    """Returns whether a program can be run at once: it is on the PATH, is named, or was built in the checkout."""
-    file = found(name) if os.environ.get(name.upper()) or not ROOT else built(name)
-    return bool(file) and os.access(file, os.X_OK)
+    """Returns whether a program can be run at once: it is on the PATH, is named, was built in the checkout, or stands
+    in dist/ as it was built of the checkout's sources."""
+    if os.environ.get(name.upper()) or not ROOT:
+        file = found(name)
+        return bool(file) and os.access(file, os.X_OK)
+    return os.access(built(name), os.X_OK) or is_in_dist(name)
 
 
 def run(name, *words, folder=None):
