@@ -83,11 +83,12 @@ ghost use Rattle.std.specs.Prelude.{◌≤◌, ◌≤ℤ◌, pos, IfSome};
 ghost use Rattle.mill_base.specs.Lattices.{node_count};
 ghost use Rattle.mill_base.specs.Numbers.{Within};
 ghost use Rattle.mill_base.specs.Sizes.{IsCutter};
-ghost use Rattle.mill_base.specs.Tools.{IsHolder, IsTool};
 ghost use Rattle.mill_base.specs.declared.limits.TheConstants.{MAX_COORDINATE};
 ghost use Rattle.LATTICE;
 
-use mill_base::{Box2, Cutter, Holder, Lattice, MAX_NODES, MAX_RADIUS, MAX_TEXT_COORDINATE, Tool};
+use mill_base::{
+    Box2, Cutter, Lattice, MAX_NODES, MAX_RADIUS, MAX_TEXT_COORDINATE, Solid, Tool,
+};
 
 /// A tool, the lattice of places for it, and a height.
 #[derive(Clone, Copy)]
@@ -99,7 +100,6 @@ pub struct Task {
 
 /// The task of the words CUTTER RADIUS RISE RUN X0 Y0 X1 Y1 STEP HEIGHT STICKOUT, none where one is out of range.
 pub fn task_of(words: &[String]) -> Option<Task>
-    ensures tool { IfSome result (λ task. IsTool task.tool) }
     ensures lattice { IfSome result (λ task. IsTaskLattice task.lattice) }
     ensures height { IfSome result (λ task. Within MAX_COORDINATE task.height) }
 {
@@ -116,7 +116,10 @@ pub fn task_of(words: &[String]) -> Option<Task>
     let lattice = lattice_of(area, number(step)?)?;
     let holder = holder_of(number(radius)?, number(stickout)?)?;
     Some(Task {
-        tool: Tool { cutter, holder },
+        tool: Tool {
+            cutter: Solid::at_tip(cutter),
+            holder,
+        },
         lattice,
         height: number(height)?,
     })
@@ -133,10 +136,9 @@ fn number(word: &str) -> Option<i32>
 }
 
 /// The holder of a cutter that stands out so far, none where that is 0.
-fn holder_of(radius: i32, stickout: i32) -> Option<Option<Holder>>
+fn holder_of(radius: i32, stickout: i32) -> Option<Option<Solid>>
     requires radius_ok { Within MAX_COORDINATE radius }
     requires stickout_ok { Within MAX_COORDINATE stickout }
-    ensures { IfSome result (λ holder. IfSome holder IsHolder) }
 {
     if stickout == 0 {
         return Some(None);
@@ -145,7 +147,7 @@ fn holder_of(radius: i32, stickout: i32) -> Option<Option<Holder>>
     if stickout < 0 || radius < 1 || radius > MAX_RADIUS {
         return None;
     }
-    Some(Some(Holder { radius, stickout }))
+    Some(Some(Solid::new(Cutter::Flat { radius }, stickout)))
 }
 
 fn cutter_of(kind: &str, radius: i32, rise: i32, run: i32) -> Option<Cutter>

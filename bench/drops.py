@@ -5,7 +5,6 @@ LATTICE = "mill_base.specs.Lattices.{IsMapLattice as IsTaskLattice}"
 CALL = """\
 //! Drops the cutter at each node of the lattice.
 ghost use Rattle.mill_base.specs.Numbers.{Within};
-ghost use Rattle.mill_base.specs.Tools.{IsTool};
 ghost use Rattle.mill_base.specs.declared.limits.TheConstants.{MAX_COORDINATE};
 ghost use Rattle.mill_base.specs.Lattices.{IsMapLattice};
 
@@ -24,7 +23,6 @@ pub fn call<R: Threads + Sync>(
     part: &SortedPart,
     task: Task,
 ) -> Result<Vec<i32>>
-    requires tool_ok { IsTool task.tool }
     requires lattice_ok { IsMapLattice task.lattice }
     requires height_ok { Within MAX_COORDINATE task.height }
 {

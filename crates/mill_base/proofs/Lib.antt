@@ -11,3 +11,4 @@ pub mod ExitCerts
 pub mod Exit
 pub mod Ranges
 pub mod NodeLemmas
+pub mod SolidLemmas

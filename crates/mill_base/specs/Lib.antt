@@ -4,6 +4,7 @@ pub mod Cutters
 pub mod Motion
 pub mod Contact
 pub mod Sizes
+pub mod Solids
 pub mod Tools
 pub mod Units
 pub mod Ranges

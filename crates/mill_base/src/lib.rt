@@ -16,6 +16,7 @@ mod motion;
 mod points;
 mod roots;
 mod rounding;
+mod solid;
 mod steps;
 mod tool;
 mod unit;
@@ -24,15 +25,16 @@ pub use arithmetic::{offset, product, square, square_sum};
 pub use cutter::Cutter;
 pub use lattice::Lattice;
 pub use limits::{
-    LOWEST_TIP, MAX_COLUMNS, MAX_COORDINATE, MAX_DEPTH, MAX_FILE_BYTES, MAX_LAST_REACH, MAX_MOVES,
-    MAX_NODES, MAX_RADIUS, MAX_REACH, MAX_TEXT_COORDINATE, MAX_TRIANGLES, MAX_WIDE_RADIUS,
-    MAX_WORKERS,
+    LOWEST_LIFT, LOWEST_TIP, MAX_COLUMNS, MAX_COORDINATE, MAX_DEPTH, MAX_FILE_BYTES,
+    MAX_LAST_REACH, MAX_MOVES, MAX_NODES, MAX_RADIUS, MAX_REACH, MAX_TEXT_COORDINATE,
+    MAX_TRIANGLES, MAX_WIDE_RADIUS, MAX_WORKERS,
 };
 pub use memory::WantOfMemory;
 pub use motion::{Kind, Move};
 pub use points::{Box2, Pt3, Tri};
 pub use roots::{ceil_root, floor_root};
 pub use rounding::{power_of_two, round_half_up};
+pub use solid::Solid;
 pub use steps::Steps;
-pub use tool::{Holder, Tool};
+pub use tool::Tool;
 pub use unit::Unit;

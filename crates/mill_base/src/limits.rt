@@ -11,6 +11,9 @@ pub const MAX_COORDINATE: u32 = 524_287;
 /// The lowest height of a tip at which contact is tested: a widened cutter is lowered under its move.
 pub const LOWEST_TIP: i32 = -545_000;
 
+/// The lowest that a solid's tip may be under the tip of its tool.
+pub const LOWEST_LIFT: i32 = -4_300;
+
 /// The greatest radius of a job's cutter.
 pub const MAX_RADIUS: i32 = 10_000;
 

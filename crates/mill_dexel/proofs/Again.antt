@@ -19,7 +19,7 @@ use Rattle.mill_dexel.specs.declared.sample.Placed.{Placed}
 use Rattle.mill_dexel.specs.Samples.{placed, sample_at, split_of, sample_centre, is_at_whole_place}
 use Rattle.mill_dexel.specs.Tops.{lowered_to, top_after_sample, top_after_move, tops_after_move}
 use Rattle.mill_dexel.specs.Rows.{top_at}
-use Rattle.mill_dexel.specs.Cuts.{IsCutBy, IsCutAt}
+use Rattle.mill_dexel.specs.inner.Cuts.{IsCutBy, IsCutAt}
 use Rattle.mill_dexel.proofs.Heights.{greater_left, greater_is, greater_of_less, lesser_left, lesser_right}
 use Rattle.mill_dexel.proofs.Reaches.{kept_over}
 use Rattle.mill_dexel.proofs.EndCerts.{weighed_start, weighed_end, whole_least, whole_most}

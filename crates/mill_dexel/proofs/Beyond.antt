@@ -12,7 +12,7 @@ use Rattle.mill_job.specs.Columns.{column_y}
 use Rattle.mill_sweep.specs.Leaves.{end_of}
 use Rattle.mill_dexel.specs.Samples.{placed, sample_at, split_of, sample_centre}
 use Rattle.mill_dexel.specs.Tops.{tops_after_move}
-use Rattle.mill_dexel.specs.Cuts.{IsCutBy, IsBeyond}
+use Rattle.mill_dexel.specs.inner.Cuts.{IsCutBy, IsBeyond}
 use Rattle.mill_dexel.proofs.InnerCerts.{between_low, between_high}
 use Rattle.mill_dexel.proofs.Places.{narrow_sample, sample_cases, inner_is}
 use Rattle.mill_dexel.proofs.CutRows.{IsCutByFirst, beyond_keeps, none_keeps, samples_start, samples_go_on, samples_end}

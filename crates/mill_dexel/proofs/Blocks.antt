@@ -1,30 +1,30 @@
 -- A row that goes through the moves block by block, and over a block that stays far away from it.
 use Rattle.std.proofs.Common.{◌≡◌, inl, inr, ℕ, zero, suc, ◌+◌, ◌-◌, ◌<◌, ◌≤◌, refl, sym, subst, ap, ◌∙◌, length, take, drop, arith}
-use Rattle.std.specs.Prelude.{ℤ, pos, ◌+ℤ◌, ◌≤ℤ◌, List, [], ◌∷◌, ◌++◌, Option, Some, None, IfSome, MatchOption, slice_range}
+use Rattle.std.specs.Prelude.{ℤ, ◌≤ℤ◌, List, [], ◌∷◌, ◌++◌, Option, Some, None, IfSome, MatchOption, slice_range}
 use Rattle.std.proofs.lemmas.Bool.{cases_lt}
 use Rattle.std.proofs.lemmas.Int.{ints}
 use Rattle.std.proofs.Math.Seq.{drop-nil}
 use Rattle.std.proofs.lemmas.List.Sums.{fold-append}
+use Rattle.mill_base.proofs.SolidLemmas.{cutter_is_solid}
 use Rattle.mill_base.specs.Ranges.{MoveInRange, MovesInRange}
-use Rattle.mill_base.specs.Sizes.{radius_of}
-use Rattle.mill_base.specs.Tools.{IsHolder}
+use Rattle.mill_base.specs.Solids.{IsSolid, Solid}
 use Rattle.mill_base.specs.declared.motion.Move.{Move}
-use Rattle.mill_base.specs.declared.tool.Holder.{Holder}
-use Rattle.mill_base.specs.declared.limits.TheConstants.{MAX_LAST_REACH}
 use Rattle.mill_job.specs.declared.fields.JobFields.{JobFields}
 use Rattle.mill_job.specs.Jobs.{IsJob}
 use Rattle.mill_job.specs.Columns.{column_y}
+use Rattle.mill_sweep.specs.Reach.{margin_of}
 use Rattle.mill_dexel.specs.Tops.{tops_after_move}
 use Rattle.mill_dexel.specs.Rows.{RowState, IsRowOf, cutting, holding, HolderPassesRow}
-use Rattle.mill_dexel.specs.Cuts.{IsBeyond}
+use Rattle.mill_dexel.specs.inner.Cuts.{IsBeyond}
 use Rattle.mill_dexel.specs.Turns.{move_at, ClearsRow, StopsRow, tops_after, row_before, TurnsEndAt, IsRunOn, IsTurned, TurnsEndBy, IsRunUpTo, IsTurnedUpTo}
 use Rattle.mill_dexel.specs.Bands.{IsInBand, IsBand}
 use Rattle.mill_dexel.specs.inner.Passing.{IsAway, PassesOver}
 use Rattle.mill_dexel.specs.declared.fail.RowFail.{RowFail}
 use Rattle.mill_dexel.specs.declared.band.Band.{Band}
 use Rattle.mill_dexel.proofs.Beyond.{move_keeps}
+use Rattle.mill_dexel.proofs.Reaches.{past_margin}
 use Rattle.mill_dexel.proofs.RunLaws.{IsRunTo, move_read, run_more, run_ended}
-use Rattle.mill_dexel.proofs.Trials.{cutting_trial, holding_trial, far_passes_row}
+use Rattle.mill_dexel.proofs.Trials.{far_passes_row}
 
 -- a list in two parts
 take_none : {A : Type 0} (n : ℕ) → take {A = A} n [] ≡ []
@@ -150,13 +150,13 @@ turns_end job moves limit old new all = by old.failed
 -- a move that stays away from a row passes each of its columns, by its cutter and by its holder, and so the row
 away_clears : (job : JobFields) (r : RowState) (m : Move) → IsJob job → MoveInRange m → IsAway job m.from.y m.to.y (column_y job r.row) → ClearsRow job r m
 away_clears job r m is_job range away = record {
-  cut = λ tested. far_passes_row job (cutting job m.kind m) r (cutting_trial job m.kind m is_job.cutter_ok range) away.cut;
+  cut = λ tested. far_passes_row job (cutting job m.kind m) r (cutter_is_solid job.cutter is_job.cutter_ok) range away.cut;
   holder = held job.holder is_job.holder_ok away.holder;
 }
   where
-    held : (o : Option Holder) → IfSome o IsHolder → IfSome o (λ holder. IsBeyond (holder.radius +ℤ pos MAX_LAST_REACH) m.from.y m.to.y (column_y job r.row)) → IfSome o (λ holder. HolderPassesRow holder job r m)
+    held : (o : Option Solid) → IfSome o IsSolid → IfSome o (λ holder. IsBeyond (margin_of holder.cutter) m.from.y m.to.y (column_y job r.row)) → IfSome o (λ holder. HolderPassesRow holder job r m)
     held None ok far = tt
-    held (Some holder) ok far = far_passes_row job (holding holder m) r (holding_trial holder m ok range) far
+    held (Some holder) ok far = far_passes_row job (holding holder m) r ok range far
 
 -- a band that is widened to one move more
 pub band_more : (moves : List Move) (first t : ℕ) (low high low' high' : ℤ) → ((k : ℕ) → first ≤ k → k < t → IsInBand low high (move_at moves k)) → low' ≤ℤ low → high ≤ℤ high' → IsInBand low' high' (move_at moves t)
@@ -179,13 +179,13 @@ in_band_beyond distance y low high m inside (inr h) = let l = h.second in let a 
 
 in_band_away : (job : JobFields) (y low high : ℤ) (m : Move) → IsInBand low high m → IsAway job low high y → IsAway job m.from.y m.to.y y
 in_band_away job y low high m inside away = record {
-  cut = in_band_beyond (radius_of job.cutter +ℤ pos MAX_LAST_REACH) y low high m inside away.cut;
+  cut = in_band_beyond (margin_of job.cutter) y low high m inside away.cut;
   holder = held job.holder away.holder;
 }
   where
-    held : (o : Option Holder) → IfSome o (λ holder. IsBeyond (holder.radius +ℤ pos MAX_LAST_REACH) low high y) → IfSome o (λ holder. IsBeyond (holder.radius +ℤ pos MAX_LAST_REACH) m.from.y m.to.y y)
+    held : (o : Option Solid) → IfSome o (λ holder. IsBeyond (margin_of holder.cutter) low high y) → IfSome o (λ holder. IsBeyond (margin_of holder.cutter) m.from.y m.to.y y)
     held None far = tt
-    held (Some holder) far = in_band_beyond (holder.radius +ℤ pos MAX_LAST_REACH) y low high m inside far
+    held (Some holder) far = in_band_beyond (margin_of holder.cutter) y low high m inside far
 
 contained : (moves : List Move) (k : ℕ) → MovesInRange moves → k < length moves → MoveInRange (move_at moves k)
 contained moves k range there = range (move_at moves k) (k, there, move_read moves k (move_at moves k) there)
@@ -214,12 +214,8 @@ module _ (job : JobFields) (moves : List Move) (old now : RowState) (start : ℕ
       → IsRunTo job moves old (passing (k + 1)) (k + 1)
   past_one k there far before =
       run_more job moves old (passing k) (passing (k + 1)) k there before (away_clears job (passing k) (move_at moves k) is_job (contained moves k range there) far)
-      (ap (λ (ts : List ℤ). record now { tops = ts; done = k + 1 }) (move_keeps job now.row (move_at moves k) now.tops is_job.cutter_ok (nearer far.cut)))
+      (ap (λ (ts : List ℤ). record now { tops = ts; done = k + 1 }) (move_keeps job now.row (move_at moves k) now.tops is_job.cutter_ok (past_margin job.cutter (move_at moves k).from.y (move_at moves k).to.y (column_y job now.row) far.cut)))
       (record { there = run.is_row.there; columns = run.is_row.columns; in_stock = run.is_row.in_stock })
-    where
-      nearer : {a b y : ℤ} → IsBeyond (radius_of job.cutter +ℤ pos MAX_LAST_REACH) a b y → IsBeyond (radius_of job.cutter) a b y
-      nearer (inl h) = let l = h.first in let k = h.second in inl (record { first = omega (arith, ints); second = omega (arith, ints) })
-      nearer (inr h) = let l = h.first in let k = h.second in inr (record { first = omega (arith, ints); second = omega (arith, ints) })
 
   pub run_past : (more : ℕ) → start + more ≤ length moves
       → ((k : ℕ) → start ≤ k → k < start + more → IsAway job (move_at moves k).from.y (move_at moves k).to.y (column_y job now.row))

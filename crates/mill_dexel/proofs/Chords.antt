@@ -7,7 +7,7 @@ use Rattle.std.proofs.lemmas.Nat.{mul-lt}
 use Rattle.std.proofs.Math.Nat.{mul-le-mul}
 use Rattle.std.proofs.Math.IntN.{pos-*ℤ-pos}
 use Rattle.mill_base.specs.Numbers.{square}
-use Rattle.mill_dexel.specs.Cuts.{IsHalfChord}
+use Rattle.mill_dexel.specs.inner.Cuts.{IsHalfChord}
 
 -- a lesser length has a lesser square
 square_less : (d r : ℕ) → d < r → d * d < r * r

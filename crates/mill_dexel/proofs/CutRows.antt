@@ -19,7 +19,7 @@ use Rattle.mill_dexel.specs.declared.sample.Placed.{Placed}
 use Rattle.mill_dexel.specs.Samples.{sample_at, split_of}
 use Rattle.mill_dexel.specs.Tops.{lowered_to, top_after_sample, top_after_move, tops_after_move}
 use Rattle.mill_dexel.specs.Rows.{RowState, IsRowOf, top_at}
-use Rattle.mill_dexel.specs.Cuts.{IsCutBy, IsReachBy, IsBeyond, IsHalfChord}
+use Rattle.mill_dexel.specs.inner.Cuts.{IsCutBy, IsReachBy, IsBeyond, IsHalfChord}
 use Rattle.mill_dexel.proofs.Reaches.{beyond_far, far_keeps, beside_keeps, free_keeps, outside_keeps}
 use Rattle.mill_base.specs.Contact.{Holds}
 use Rattle.mill_base.specs.Points.{point_at}

@@ -7,22 +7,23 @@ use Rattle.mill_base.specs.Numbers.{square}
 use Rattle.mill_base.specs.Contact.{Holds}
 use Rattle.mill_base.specs.Points.{point_at}
 use Rattle.mill_base.specs.Sizes.{IsCutter, radius_of, is_within, surface, cut_height_of}
+use Rattle.mill_base.specs.Solids.{Solid}
 use Rattle.mill_base.specs.declared.points.Pt3.{Pt3}
 use Rattle.mill_base.specs.declared.cutter.Cutter.{Cutter}
-use Rattle.mill_base.specs.declared.tool.Holder.{Holder}
 use Rattle.mill_base.specs.declared.cutter.Cutter.TheVariants.{Flat, Ball, Cone}
 use Rattle.mill_base.proofs.Exit.{split_lt}
 use Rattle.mill_base.proofs.Machine.{Read, Lit, Sum, exact, sum_fits, stored}
-use Rattle.mill_base.specs.declared.limits.TheConstants.{MAX_RADIUS, MAX_LAST_REACH}
+use Rattle.mill_base.specs.declared.limits.TheConstants.{MAX_RADIUS}
 use Rattle.mill_base.proofs.Integers.{sq-ℤ}
 use Rattle.mill_shape.proofs.CutHeights.{cut_height_is_greatest, cutter_is_wide}
 use Rattle.mill_shape.proofs.Holding.{holds_over_tip}
 use Rattle.mill_job.specs.Jobs.{IsJob}
 use Rattle.mill_job.specs.declared.fields.JobFields.{JobFields}
+use Rattle.mill_sweep.specs.Reach.{margin_of}
 use Rattle.mill_sweep.proofs.Passing.{radius_least}
 use Rattle.mill_dexel.specs.declared.sample.Placed.{Placed}
 use Rattle.mill_dexel.specs.Tops.{top_after_sample, lowered_to}
-use Rattle.mill_dexel.specs.Cuts.{IsReachAlong, IsReachBy, IsBeyond, IsHalfChord}
+use Rattle.mill_dexel.specs.inner.Cuts.{IsReachAlong, IsReachBy, IsBeyond, IsHalfChord}
 use Rattle.mill_dexel.specs.inner.Passing.{IsAway}
 use Rattle.mill_dexel.proofs.FarCerts.{far_under, far_over}
 
@@ -89,26 +90,33 @@ pub beyond_same : (r a b y s c d z : ℤ) → r ≡ s → a ≡ c → b ≡ d �
 beyond_same r a b y s c d z er ea eb ey (inl h) = let l = h.first in let k = h.second in inl (record { first = omega (arith, ints); second = omega (arith, ints) })
 beyond_same r a b y s c d z er ea eb ey (inr h) = let l = h.first in let k = h.second in inr (record { first = omega (arith, ints); second = omega (arith, ints) })
 
--- a row as far away as the holder, which is wider than the cutter, or as the cutter where there is no holder, is far enough away
+-- what is beyond a distance is beyond a lesser one, as what is beyond the distance at which a cutter passes is beyond its radius
 nearer : (q r a b y : ℤ) → q ≤ℤ r → IsBeyond r a b y → IsBeyond q a b y
 nearer q r a b y less (inl h) = let l = h.first in let k = h.second in inl (record { first = omega (arith, ints); second = omega (arith, ints) })
 nearer q r a b y less (inr h) = let l = h.first in let k = h.second in inr (record { first = omega (arith, ints); second = omega (arith, ints) })
 
-module _ (job : JobFields) (a b y : ℤ) where
-  pub away_bare : job.holder ≡ None → IsBeyond (radius_of job.cutter +ℤ pos MAX_LAST_REACH) a b y → IsAway job a b y
-  away_bare none beyond = record {
-    cut = beyond;
-    holder = subst (λ (o : Option Holder). IfSome o (λ holder. IsBeyond (holder.radius +ℤ pos MAX_LAST_REACH) a b y)) (sym none) tt;
-  }
+pub past_margin : (cutter : Cutter) (a b y : ℤ) → IsBeyond (margin_of cutter) a b y → IsBeyond (radius_of cutter) a b y
+past_margin cutter a b y beyond = nearer (radius_of cutter) (margin_of cutter) a b y (less (radius_of cutter)) beyond
+  where
+    less : (r : ℤ) → r ≤ℤ (r +ℤ pos 2)
+    less r = omega (arith, ints)
 
-  pub away_held : (holder : Holder) → IsJob job → job.holder ≡ Some holder → IsBeyond (holder.radius +ℤ pos MAX_LAST_REACH) a b y → IsAway job a b y
+-- a row as far away as the holder, which is wider than the cutter, or as the cutter where there is no holder, is far enough away
+module _ (job : JobFields) (a b y : ℤ) where
+  abbrev HolderIsBeyond : Option Solid → Type 0
+  HolderIsBeyond o = IfSome o (λ holder. IsBeyond (margin_of holder.cutter) a b y)
+
+  pub away_bare : job.holder ≡ None → IsBeyond (margin_of job.cutter) a b y → IsAway job a b y
+  away_bare none beyond = record { cut = beyond; holder = subst HolderIsBeyond (sym none) tt }
+
+  pub away_held : (holder : Solid) → IsJob job → job.holder ≡ Some holder → IsBeyond (margin_of holder.cutter) a b y → IsAway job a b y
   away_held holder is_job there beyond = record {
-    cut = nearer (radius_of job.cutter +ℤ pos MAX_LAST_REACH) (holder.radius +ℤ pos MAX_LAST_REACH) a b y
-        (wide (radius_of job.cutter) holder.radius (subst (λ (o : Option Holder). IfSome o (λ holder. radius_of job.cutter <ℤ holder.radius)) there is_job.wider)) beyond;
-    holder = subst (λ (o : Option Holder). IfSome o (λ holder. IsBeyond (holder.radius +ℤ pos MAX_LAST_REACH) a b y)) (sym there) beyond;
+    cut = nearer (margin_of job.cutter) (margin_of holder.cutter) a b y
+        (wide (radius_of job.cutter) (radius_of holder.cutter) (subst (λ (o : Option Solid). IfSome o (λ holder. radius_of job.cutter <ℤ radius_of holder.cutter)) there is_job.wider)) beyond;
+    holder = subst HolderIsBeyond (sym there) beyond;
   }
     where
-      wide : (q r : ℤ) → q <ℤ r → (q +ℤ pos MAX_LAST_REACH) ≤ℤ (r +ℤ pos MAX_LAST_REACH)
+      wide : (q r : ℤ) → q <ℤ r → (q +ℤ pos 2) ≤ℤ (r +ℤ pos 2)
       wide q r h = omega (h, arith, ints)
 
 pub away_same : (job : JobFields) (a b y c d z : ℤ) → a ≡ c → b ≡ d → y ≡ z → IsAway job a b y → IsAway job c d z
@@ -172,7 +180,7 @@ radius_small cutter r size e = rw e (small (radius_of cutter) (radius_least cutt
     small q least most = omega (arith, ints)
 
 -- the distance beyond which a move passes, as the code has it
-pub passes_beyond : (cutter : Cutter) (r : ℤ) → IsCutter cutter → r ≡ radius_of cutter → stored w32 (stored w32 r +ℤ pos 2) ≡ radius_of cutter +ℤ pos MAX_LAST_REACH
+pub passes_beyond : (cutter : Cutter) (r : ℤ) → IsCutter cutter → r ≡ radius_of cutter → stored w32 (stored w32 r +ℤ pos 2) ≡ margin_of cutter
 passes_beyond cutter r size e = exact (r ∷ []) (10000 ∷ []) (Sum w32 (Read w32 0) (Lit (pos 2))) (radius_small cutter r size e, tt) refl ∙ ap (λ (s : ℤ). s +ℤ pos 2) e
 
 pub beyond_fits : (cutter : Cutter) (r : ℤ) → IsCutter cutter → r ≡ radius_of cutter → FitsSigned w32 (stored w32 r +ℤ pos 2)

@@ -6,12 +6,14 @@ use Rattle.std.proofs.lemmas.Int.{ints}
 use Rattle.std.proofs.lemmas.Nat.{pow_pos}
 use Rattle.std.proofs.lemmas.List.Elements.{Contains-append_right}
 use Rattle.mill_base.proofs.Exit.{split_lt}
+use Rattle.mill_base.proofs.SolidLemmas.{cutter_is_solid}
 use Rattle.mill_base.proofs.Divisions.{half_low, half_high, ceil_div_high}
 use Rattle.mill_base.specs.Numbers.{square, divides, round_half_up}
 use Rattle.mill_base.specs.Points.{point_at}
 use Rattle.mill_base.specs.Motion.{IsMoment, tip_at}
 use Rattle.mill_base.specs.Contact.{Holds, Removes, IsRemoved}
 use Rattle.mill_base.specs.Sizes.{IsCutter, radius_of, with_radius, inner, shift, cut_height_of}
+use Rattle.mill_base.specs.Solids.{at_tip}
 use Rattle.mill_base.specs.declared.points.Pt3.{Pt3}
 use Rattle.mill_base.specs.declared.motion.Move.{Move}
 use Rattle.mill_base.specs.declared.cutter.Cutter.{Cutter}
@@ -20,7 +22,7 @@ use Rattle.mill_base.specs.declared.limits.TheConstants.{MAX_RADIUS}
 use Rattle.mill_shape.proofs.CutHeights.{cut_height_is_greatest, cutter_is_wide}
 use Rattle.mill_sweep.specs.Leaves.{end_of}
 use Rattle.mill_sweep.proofs.Passing.{radius_least}
-use Rattle.mill_sweep.proofs.Lower.{passing_keeps_point}
+use Rattle.mill_sweep.proofs.Solids.{passing_keeps_point}
 use Rattle.mill_job.specs.declared.fields.JobFields.{JobFields}
 use Rattle.mill_dexel.specs.declared.sample.Placed.{Placed}
 use Rattle.mill_dexel.specs.Samples.{placed, sample_at, split_of, sample_centre, is_at_whole_place}
@@ -180,4 +182,4 @@ passed_is_left job m x y top h size range top_in in_range sample under passes =
   where
     no : (top <ℤ h) ⊎ Removes job.cutter m (pos 1) (point_at x y h) → h ≤ℤ top_after_move job x y top m
     no (inl before) = absurd (omega (arith, ints))
-    no (inr removes) = absurd (passing_keeps_point job.cutter m x y h h size range in_range passes (omega (arith, ints)) removes)
+    no (inr removes) = absurd (passing_keeps_point (at_tip job.cutter) m x y h h removes.k removes.m (cutter_is_solid job.cutter size) range in_range passes (omega (arith, ints)) removes.moment removes.inside)

@@ -5,18 +5,19 @@ use Rattle.std.proofs.lemmas.Bool.{cases_lt}
 use Rattle.std.proofs.lemmas.List.{get_or-drop, get_or_default, length-drop}
 use Rattle.std.proofs.lemmas.List.Sums.{fold_more}
 use Rattle.mill_base.specs.Points.{point_tri}
+use Rattle.mill_base.specs.Solids.{Solid, lifted}
 use Rattle.mill_base.specs.declared.points.Pt3.{Pt3}
 use Rattle.mill_base.specs.declared.points.Tri.{Tri}
 use Rattle.mill_base.specs.declared.motion.Move.{Move}
-use Rattle.mill_base.specs.declared.tool.Holder.{Holder}
 use Rattle.mill_base.specs.declared.cutter.Cutter.{Cutter}
 use Rattle.mill_sweep.specs.Leaves.{depth_of}
 use Rattle.mill_sweep.specs.Halving.{FailsAt, LeadsTo}
+use Rattle.mill_sweep.specs.Solids.{SolidFailsAt}
 use Rattle.mill_sweep.specs.declared.leaf.Leaf.{Leaf}
 use Rattle.mill_job.specs.declared.fields.JobFields.{JobFields}
 use Rattle.mill_job.specs.Columns.{row_count, column_count}
 use Rattle.mill_job.specs.Jobs.{IsFrom}
-use Rattle.mill_dexel.specs.Cuts.{IsCutAt}
+use Rattle.mill_dexel.specs.inner.Cuts.{IsCutAt}
 use Rattle.mill_dexel.specs.Tops.{tops_after_move}
 use Rattle.mill_dexel.specs.Rows.{RowState, Test, cutting, holding, IsRowOf, IsFirstStop, row_point}
 use Rattle.mill_dexel.specs.Turns.{move_at, ClearsRow, turned, StopsAt, StopsRow, IsLeftBy, IsRowStopped, tops_after, row_before, PassesTurn, TurnsEndAt, IsRunOn, IsTurned, TurnsEndBy, IsRunUpTo, IsTurnedUpTo}
@@ -178,10 +179,10 @@ leaf_is_one cutter m tri a b h g = leads_to_one cutter m tri (depth_of m) 0 0 a 
 first_is_one : (job : JobFields) (t : Test) (r : RowState) (i k : ℕ) (a b : Leaf) → IsFirstStop job t r i a → IsFirstStop job t r k b → (i ≡ k) × (a ≡ b)
 first_is_one job t r i k a b h g =
     let col : i ≡ k = same_number i k (λ less. h.fails.fails (g.before i less)) (λ less. g.fails.fails (h.before k less)) in
-    (col, leaf_is_one t.solid t.move (point_tri (row_point job t.kind r i)) a b h.fails (subst (λ (n : ℕ). FailsAt t.solid t.move (point_tri (row_point job t.kind r n)) b) (sym col) g.fails))
+    (col, leaf_is_one t.solid.cutter (lifted t.solid t.move) (point_tri (row_point job t.kind r i)) a b h.fails (subst (λ (n : ℕ). SolidFailsAt t.solid t.move (point_tri (row_point job t.kind r n)) b) (sym col) g.fails))
 
-same_some : (a b : Holder) (o : Option Holder) → o ≡ Some a → o ≡ Some b → a ≡ b
-same_some a b o h g = ap (λ (p : Option Holder). unwrap_or p a) (sym h ∙ g)
+same_some : (a b : Solid) (o : Option Solid) → o ≡ Some a → o ≡ Some b → a ≡ b
+same_some a b o h g = ap (λ (p : Option Solid). unwrap_or p a) (sym h ∙ g)
 
 -- and a move fails one test first
 stop_at_one : (job : JobFields) (r : RowState) (m : Move) (s t : RowTest) (i k : ℕ) (a b : Leaf) → StopsAt s job r m i a → StopsAt t job r m k b → (s ≡ t) × (i ≡ k) × (a ≡ b)
@@ -190,7 +191,7 @@ stop_at_one job r m test.Cut test.Holder i k a b h g = absurd (cut_stop_fails jo
 stop_at_one job r m test.Holder test.Cut i k a b h g = absurd (cut_stop_fails job r m k b g h.cut)
 stop_at_one job r m test.Holder test.Holder i k a b h g =
     let same = same_some g.holder.holder h.holder.holder job.holder g.holder.there h.holder.there in
-    let one = first_is_one job (holding h.holder.holder m) r i k a b h.holder.column (subst (λ (holder : Holder). IsFirstStop job (holding holder m) r k b) same g.holder.column) in
+    let one = first_is_one job (holding h.holder.holder m) r i k a b h.holder.column (subst (λ (holder : Solid). IsFirstStop job (holding holder m) r k b) same g.holder.column) in
     (refl, one.0, one.1)
 
 same_fail : (a b : RowFail) → a.at ≡ b.at → a.test ≡ b.test → a.col ≡ b.col → a.leaf ≡ b.leaf → a ≡ b

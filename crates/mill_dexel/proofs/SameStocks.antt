@@ -1,12 +1,12 @@
 -- Stocks that are the same at each column, and the rows that show them.
-use Rattle.std.proofs.Common.{◌≡◌, ℕ, ◌<◌, sym, subst, ap, ◌∙◌, length, get_or, arith}
+use Rattle.std.proofs.Common.{◌≡◌, ℕ, ◌<◌, sym, subst, ap, ◌∙◌}
 use Rattle.std.specs.Prelude.{ℤ, pos, List, [], None}
 use Rattle.mill_base.specs.declared.motion.Move.{Move}
 use Rattle.mill_job.specs.declared.fields.JobFields.{JobFields}
 use Rattle.mill_job.specs.Columns.{row_count, column_x, column_y}
 use Rattle.mill_job.specs.Jobs.{IsFrom}
-use Rattle.mill_dexel.specs.Rows.{RowState, fresh_row, restarted, top_at}
-use Rattle.mill_dexel.specs.Stocks.{AreSame, IsStockOf, ShowsRow, ShowsStock, shown_by}
+use Rattle.mill_dexel.specs.Rows.{RowState, top_at}
+use Rattle.mill_dexel.specs.Stocks.{AreSame, IsStockOf, ShowsStock, shown_by}
 use Rattle.mill_dexel.specs.Tops.{Stock, row_tops, stock_after, top_on}
 use Rattle.mill_dexel.proofs.RowLaws.{length-row_tops, row_tops-at, tops_are_row}
 

@@ -1,14 +1,13 @@
 -- The whole stock, row by row: a further feed is tested at the rows in its reach, and a further move cuts these.
 use Rattle.std.proofs.Common.{◌≡◌, ◌⊎◌, inl, inr, ℕ, zero, suc, ◌+◌, ◌<◌, ◌≤◌, refl, sym, subst, ap, ◌∙◌, length, get_or, arith}
-use Rattle.std.specs.Prelude.{ℤ, pos, ◌+ℤ◌, List, [], ◌∷◌, ◌++◌, All, min, true, false, Option, Some, None, IfSome, is_some}
+use Rattle.std.specs.Prelude.{pos, List, [], ◌∷◌, ◌++◌, All, min, true, false, Option, Some, None, IfSome, is_some}
 use Rattle.std.proofs.lemmas.Bool.{cases_lt}
-use Rattle.std.proofs.lemmas.Int.{ints}
 use Rattle.std.proofs.lemmas.List.{get_or_default, get_or_append_left, length-append}
 use Rattle.std.proofs.lemmas.List.Elements.{All-append}
 use Rattle.std.proofs.Math.Seq.{get_or-append_seam}
+use Rattle.mill_base.proofs.SolidLemmas.{cutter_is_solid}
 use Rattle.mill_base.specs.Ranges.{MoveInRange}
-use Rattle.mill_base.specs.Sizes.{IsCutter, radius_of}
-use Rattle.mill_base.specs.declared.limits.TheConstants.{MAX_LAST_REACH}
+use Rattle.mill_base.specs.Sizes.{IsCutter}
 use Rattle.mill_base.specs.declared.points.Pt3.{Pt3}
 use Rattle.mill_base.specs.declared.motion.Move.{Move}
 use Rattle.mill_base.specs.declared.motion.Kind.{Kind}
@@ -16,13 +15,15 @@ use Rattle.mill_base.specs.declared.motion.Kind.TheVariants.{Feed}
 use Rattle.mill_job.specs.declared.fields.JobFields.{JobFields}
 use Rattle.mill_job.specs.Columns.{IsColumn, row_count, column_count, column_y}
 use Rattle.mill_sweep.specs.Halving.{PassesPoint}
+use Rattle.mill_sweep.specs.Reach.{margin_of}
 use Rattle.mill_sweep.specs.declared.leaf.Leaf.{Leaf}
-use Rattle.mill_dexel.specs.Cuts.{IsBeyond, IsRowReach}
+use Rattle.mill_dexel.specs.inner.Cuts.{IsBeyond, IsRowReach}
 use Rattle.mill_dexel.specs.Tops.{IsTested, ClearsColumns, tested_point, row_after, tops_after_move}
 use Rattle.mill_dexel.specs.Rows.{RowState, IsRowOf, cutting, IsFirstStop, PassesRow, row_point, uncut_row}
 use Rattle.mill_dexel.specs.Stocks.{IsRow, IsStock}
 use Rattle.mill_dexel.proofs.Beyond.{move_keeps}
-use Rattle.mill_dexel.proofs.Trials.{cutting_trial, far_passes_row}
+use Rattle.mill_dexel.proofs.Reaches.{past_margin}
+use Rattle.mill_dexel.proofs.Trials.{far_passes_row}
 use Rattle.mill_dexel.proofs.RowLaws.{row_after-at, row_after_more, turned_is_row}
 
 -- a column's point at which a move of a kind is tested, by the row that it stands in
@@ -39,7 +40,7 @@ ArePassed job m rows first n = (j : ℕ) (other : RowState) → first ≤ j → 
 
 -- a row out of a move's reach stands far away from it
 out_of_reach : (job : JobFields) (m : Move) (first «end» j : ℕ) → IsRowReach job m.from.y m.to.y first «end» → j < row_count job → (j < first) ⊎ («end» ≤ j)
-    → IsBeyond (radius_of job.cutter +ℤ pos MAX_LAST_REACH) m.from.y m.to.y (column_y job j)
+    → IsBeyond (margin_of job.cutter) m.from.y m.to.y (column_y job j)
 out_of_reach job m first «end» j reach there (inl before) = inl (reach.under j before)
 out_of_reach job m first «end» j reach there (inr behind) = inr (reach.over j behind there)
 
@@ -58,9 +59,9 @@ module _ (job : JobFields) (m : Move) (done : List Move) (rows : List RowState) 
           is : IsRow job done j (get_or rows j other)
           is = stock.rows_ok j other column.row
 
-          far : IsBeyond (radius_of job.cutter +ℤ pos MAX_LAST_REACH) m.from.y m.to.y (column_y job j) → PassesRow job (cutting job Feed m) (get_or rows j other)
-          far beyond = far_passes_row job (cutting job Feed m) (get_or rows j other) (cutting_trial job Feed m size range)
-              (subst (λ (k : ℕ). IsBeyond (radius_of job.cutter +ℤ pos MAX_LAST_REACH) m.from.y m.to.y (column_y job k)) (sym is.number) beyond)
+          far : IsBeyond (margin_of job.cutter) m.from.y m.to.y (column_y job j) → PassesRow job (cutting job Feed m) (get_or rows j other)
+          far beyond = far_passes_row job (cutting job Feed m) (get_or rows j other) (cutter_is_solid job.cutter size) range
+              (subst (λ (k : ℕ). IsBeyond (margin_of job.cutter) m.from.y m.to.y (column_y job k)) (sym is.number) beyond)
 
           behind : n ≤ j → («end» ≤ n) ⊎ (length rows ≤ n) → «end» ≤ j
           behind h (inl l) = omega (arith, h, l)
@@ -133,11 +134,6 @@ pub record AreCutTo (job : JobFields) (m : Move) (first n : ℕ) (old new : List
   pub cut : (j : ℕ) (other : RowState) → first ≤ j → j < n → j < length old → get_or new j other ≡ cut_by job m (get_or old j other)
   pub rest : (j : ℕ) (other : RowState) → (j < first) ⊎ (n ≤ j) → get_or new j other ≡ get_or old j other
 
--- what is beyond the distance at which a move passes is beyond the radius
-beyond_radius : (r a b y : ℤ) → IsBeyond (r +ℤ pos MAX_LAST_REACH) a b y → IsBeyond r a b y
-beyond_radius r a b y (inl h) = let l = h.first in let k = h.second in inl (record { first = omega (arith, ints); second = omega (arith, ints) })
-beyond_radius r a b y (inr h) = let l = h.first in let k = h.second in inr (record { first = omega (arith, ints); second = omega (arith, ints) })
-
 -- the rows stay the job's
 pub cut_are_rows : (job : JobFields) (m : Move) (first n : ℕ) (old new : List RowState) → AreCutTo job m first n old new → All (IsRowOf job) old → All (IsRowOf job) new
 cut_are_rows job m first n old new cut rows = λ j other within. by j other (subst (λ (k : ℕ). j < k) cut.count within) (cases_lt j first) (cases_lt j n)
@@ -164,7 +160,7 @@ module _ (job : JobFields) (m : Move) (first «end» n : ℕ) (old new : List Ro
           subst (IsRow job (done ++ m ∷ []) j) (sym same) (record {
             number = is.number;
             after = is.after
-                ∙ move_keeps job j m (row_after job j done) size (beyond_radius (radius_of job.cutter) m.from.y m.to.y (column_y job j) (out_of_reach job m first «end» j reach there out))
+                ∙ move_keeps job j m (row_after job j done) size (past_margin job.cutter m.from.y m.to.y (column_y job j) (out_of_reach job m first «end» j reach there out))
                 ∙ sym (more j);
           })
 

@@ -1,9 +1,9 @@
 -- The tests of a move by a row, and the first of them that it fails.
 use Rattle.std.proofs.Common.{◌≡◌, ℕ, refl, sym, subst}
 use Rattle.std.specs.Prelude.{Option, Some, None, IfSome, MatchOption}
+use Rattle.mill_base.specs.Solids.{Solid}
 use Rattle.mill_base.specs.declared.motion.Move.{Move}
 use Rattle.mill_base.specs.declared.motion.Kind.{Kind}
-use Rattle.mill_base.specs.declared.tool.Holder.{Holder}
 use Rattle.mill_job.specs.declared.fields.JobFields.{JobFields}
 use Rattle.mill_sweep.specs.declared.leaf.Leaf.{Leaf}
 use Rattle.mill_dexel.specs.Tops.{IsTested}
@@ -40,16 +40,16 @@ module _ (job : JobFields) (r : RowState) (m : Move) (kind : Kind) (is : m.kind 
       found (Some s) none tested first blocked = (tested, first, blocked)
 
 -- what a job's holder finds
-pub held_found : (job : JobFields) (r : RowState) (m : Move) (holder : Holder) (o : Option (ℕ × Leaf)) → job.holder ≡ Some holder
+pub held_found : (job : JobFields) (r : RowState) (m : Move) (holder : Solid) (o : Option (ℕ × Leaf)) → job.holder ≡ Some holder
     → MatchOption o (HolderPassesRow holder job r m) (λ s. IsFirstStop job (holding holder m) r s.0 s.1) → IfSome o (λ s. IsColumnBlocked job (holding holder m) r s.0 s.1)
     → MatchOption o (HolderClearsRow job r m) (λ s. IsFirstHolderStop job r m s.0 s.1)
-held_found job r m holder None there passes none = subst (λ (h : Option Holder). IfSome h (λ holder. HolderPassesRow holder job r m)) (sym there) passes
+held_found job r m holder None there passes none = subst (λ (h : Option Solid). IfSome h (λ holder. HolderPassesRow holder job r m)) (sym there) passes
 held_found job r m holder (Some s) there first blocked = record { holder = holder; there = there; column = first; blocked = blocked }
 
 -- a test that fails isn't passed, so a move that a row stops doesn't pass it
 pub holder_stop_fails : (job : JobFields) (r : RowState) (m : Move) (i : ℕ) (leaf : Leaf) → IsFirstHolderStop job r m i leaf → ¬ HolderClearsRow job r m
 holder_stop_fails job r m i leaf stop clears =
-    stop.column.fails.fails (subst (λ (h : Option Holder). IfSome h (λ holder. HolderPassesRow holder job r m)) stop.there clears i stop.column.column)
+    stop.column.fails.fails (subst (λ (h : Option Solid). IfSome h (λ holder. HolderPassesRow holder job r m)) stop.there clears i stop.column.column)
 
 pub cut_stop_fails : (job : JobFields) (r : RowState) (m : Move) (i : ℕ) (leaf : Leaf) → CutStopsAt job r m i leaf → ¬ CutClearsRow job r m
 cut_stop_fails job r m i leaf stop clears = stop.column.fails.fails (clears stop.tested i stop.column.column)

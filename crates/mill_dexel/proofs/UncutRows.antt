@@ -14,6 +14,7 @@ use Rattle.mill_base.proofs.Machine.{Read, Diff, stored, exact, kept}
 use Rattle.mill_base.proofs.Ranges.{within_of_unit}
 use Rattle.mill_base.specs.Points.{point_at}
 use Rattle.mill_base.specs.Ranges.{IsInRange, MoveInRange, TriInRange}
+use Rattle.mill_base.specs.Solids.{IsSolid}
 use Rattle.mill_base.specs.Units.{greatest_of}
 use Rattle.mill_base.specs.declared.motion.Move.{Move}
 use Rattle.mill_base.specs.declared.motion.Kind.{Kind}
@@ -23,11 +24,11 @@ use Rattle.mill_job.specs.declared.fields.JobFields.{JobFields}
 use Rattle.mill_job.specs.Columns.{row_count, column_count, column_x, column_y}
 use Rattle.mill_job.specs.Jobs.{IsJob, IsFrom}
 use Rattle.mill_sweep.specs.Halving.{Passes}
-use Rattle.mill_dexel.specs.Rows.{RowState, IsRowOf, cutting, PassesRow, top_at, row_point, uncut_tri}
+use Rattle.mill_dexel.specs.Rows.{RowState, IsRowOf, Test, cutting, PassesRow, top_at, row_point, uncut_tri}
 use Rattle.mill_dexel.specs.Tops.{cut_limit, tested_height}
 use Rattle.mill_dexel.proofs.Heights.{greater_left, greater_right, greater_least, most_is}
 use Rattle.mill_dexel.proofs.Lines.{line_passes}
-use Rattle.mill_dexel.proofs.Trials.{cutting_trial, low_passes}
+use Rattle.mill_dexel.proofs.Trials.{low_passes}
 
 -- a number of steps that fits into a span leads no farther than its end
 steps_within : (i : ℕ) (x0 x1 pitch : ℤ) → x0 ≤ℤ x1 → (pos 1) ≤ℤ pitch → i < nat_abs (x1 -ℤ x0) / nat_abs pitch + 1 → IsFrom x0 x1 (x0 +ℤ pos i *ℤ pitch)
@@ -128,37 +129,36 @@ top_read job r i top is_job is_row there read =
     value : top ≡ top_at r.tops i
     value = read ∙ get_or_default r.tops i top (pos 0) in_row
 
-pub uncut_in_range : (job : JobFields) (kind : Kind) (j : ℕ) → IsJob job → j < row_count job → TriInRange (uncut_tri job kind j)
-uncut_in_range job kind j is_job there = record { a_ok = west; b_ok = east; c_ok = east }
+pub uncut_in_range : (job : JobFields) (j : ℕ) → IsJob job → j < row_count job → TriInRange (uncut_tri job j)
+uncut_in_range job j is_job there = record { a_ok = west; b_ok = east; c_ok = east }
   where
     y_in : Within MAX_COORDINATE (column_y job j)
     y_in = row_within job j is_job there
 
-    height_in : Within MAX_COORDINATE (tested_height job kind job.top)
-    height_in = let order = is_job.stock in tested_within job kind job.top is_job (record { low = omega (arith, ints); high = omega (arith, ints) })
+    height_in : Within MAX_COORDINATE job.top
+    height_in = within_of_unit job.unit job.top is_job.top_ok
 
-    west : IsInRange (point_at job.area.x0 (column_y job j) (tested_height job kind job.top))
+    west : IsInRange (point_at job.area.x0 (column_y job j) job.top)
     west = record { x_ok = within_of_unit job.unit job.area.x0 is_job.x0_ok; y_ok = y_in; z_ok = height_in }
 
-    east : IsInRange (point_at job.area.x1 (column_y job j) (tested_height job kind job.top))
+    east : IsInRange (point_at job.area.x1 (column_y job j) job.top)
     east = record { x_ok = within_of_unit job.unit job.area.x1 is_job.x1_ok; y_ok = y_in; z_ok = height_in }
 
--- a row is tested at most as high as the uncut row, and its columns stand within the stock
-pub uncut_passes : (job : JobFields) (kind : Kind) (r : RowState) (m : Move) → IsJob job → IsRowOf job r → Passes job.cutter m (uncut_tri job kind r.row) → PassesRow job (cutting job kind m) r
-uncut_passes job kind r m is_job is_row passes i there =
-    line_passes job.cutter m job.area.x0 job.area.x1 (column_y job r.row) (tested_height job kind job.top) (column_x job i) (tested_height job kind (top_at r.tops i))
+-- a row is at most as high as the uncut row, and its columns stand within the stock
+pub uncut_passes : (job : JobFields) (r : RowState) (m : Move) → IsJob job → IsRowOf job r → Passes job.cutter m (uncut_tri job r.row) → PassesRow job (cutting job Rapid m) r
+uncut_passes job r m is_job is_row passes i there =
+    line_passes job.cutter m job.area.x0 job.area.x1 (column_y job r.row) job.top (column_x job i) (top_at r.tops i)
     (steps_within i job.area.x0 job.area.x1 job.pitch is_job.x_order is_job.pitch_ok.low there)
-    (tested_higher job kind (top_at r.tops i) job.top (top_stays job r i is_row there).high)
+    (top_stays job r i is_row there).high
     passes
 
--- so it passes every column of a row where even the uncut row is tested no higher than both ends of the move
-pub low_passes_row : (job : JobFields) (kind : Kind) (r : RowState) (m : Move) → IsJob job → IsRowOf job r → MoveInRange m
-    → tested_height job kind job.top ≤ℤ m.from.z → tested_height job kind job.top ≤ℤ m.to.z → PassesRow job (cutting job kind m) r
-low_passes_row job kind r m is_job is_row range from to i there =
-    low_passes job (cutting job kind m) r (cutting_trial job kind m is_job.cutter_ok range) i (under m.from.z from) (under m.to.z to)
+-- a test passes every column of a row where even the uncut row is tested no higher than its solid's way
+pub low_passes_row : (job : JobFields) (test : Test) (r : RowState) (low : ℤ) → IsRowOf job r → IsSolid test.solid → MoveInRange test.move → tested_height job test.kind job.top ≤ℤ low
+    → low ≤ℤ (test.move.from.z +ℤ test.solid.lift) → low ≤ℤ (test.move.to.z +ℤ test.solid.lift) → PassesRow job test r
+low_passes_row job test r low is_row solid_ok range under from to i there = low_passes job test r solid_ok range i (over _ _ _ _ higher under from) (over _ _ _ _ higher under to)
   where
-    under : (z : ℤ) → tested_height job kind job.top ≤ℤ z → tested_height job kind (top_at r.tops i) ≤ℤ z
-    under z h = over (tested_height job kind (top_at r.tops i)) (tested_height job kind job.top) z (tested_higher job kind (top_at r.tops i) job.top (top_stays job r i is_row there).high) h
-      where
-        over : (a b c : ℤ) → a ≤ℤ b → b ≤ℤ c → a ≤ℤ c
-        over a b c h k = omega (h, k, arith, ints)
+    higher : tested_height job test.kind (top_at r.tops i) ≤ℤ tested_height job test.kind job.top
+    higher = tested_higher job test.kind (top_at r.tops i) job.top (top_stays job r i is_row there).high
+
+    over : (a b c d : ℤ) → a ≤ℤ b → b ≤ℤ c → c ≤ℤ d → a ≤ℤ d
+    over a b c d h k l = omega (h, k, l, arith, ints)

@@ -1,20 +1,16 @@
 -- A row of columns, and the first of its columns that the cutter, or its holder, doesn't pass on a move.
 use Rattle.std.specs.Prelude.{◌≡◌, ℕ, ◌<◌, ℤ, pos, List, length, All, Option, None, Some, IfSome, slice_index_or}
 use Rattle.mill_base.specs.Points.{point_at, point_tri}
-use Rattle.mill_base.specs.Tools.{solid_of}
-use Rattle.mill_base.specs.declared.cutter.Cutter.{Cutter}
+use Rattle.mill_base.specs.Solids.{Solid, at_tip}
 use Rattle.mill_base.specs.declared.points.Pt3.{Pt3}
 use Rattle.mill_base.specs.declared.points.Tri.{Tri}
 use Rattle.mill_base.specs.declared.motion.Move.{Move}
 use Rattle.mill_base.specs.declared.motion.Kind.{Kind}
 use Rattle.mill_base.specs.declared.motion.Kind.TheVariants.{Rapid}
-use Rattle.mill_base.specs.declared.tool.Holder.{Holder}
 use Rattle.mill_job.specs.declared.fields.JobFields.{JobFields}
 use Rattle.mill_job.specs.Columns.{row_count, column_count, column_x, column_y}
 use Rattle.mill_job.specs.Jobs.{IsFrom}
-use Rattle.mill_sweep.specs.Leaves.{span_of}
-use Rattle.mill_sweep.specs.Halving.{Blocks, PassesPoint, FailsAt}
-use Rattle.mill_sweep.specs.Holders.{lifted}
+use Rattle.mill_sweep.specs.Solids.{SolidFailsAt, SolidIsBlocked, SolidPassesPoint}
 use Rattle.mill_sweep.specs.declared.leaf.Leaf.{Leaf}
 use Rattle.mill_dexel.specs.Tops.{Stock, row_tops, tested_height, uncut}
 use Rattle.mill_dexel.specs.declared.fail.RowFail.{RowFail}
@@ -52,33 +48,33 @@ pub record IsRowOf (job : JobFields) (r : RowState) : Type 0 where
 abbrev pub row_point : JobFields → Kind → RowState → ℕ → Pt3
 row_point job kind r i = point_at (column_x job i) (column_y job r.row) (tested_height job kind (top_at r.tops i))
 
--- the points of the uncut row at which a move of this kind is tested, as a flat triangle, from its least x to its greatest
-abbrev pub uncut_tri : JobFields → Kind → ℕ → Tri
-uncut_tri job kind j = record {
-  a = point_at job.area.x0 (column_y job j) (tested_height job kind job.top);
-  b = point_at job.area.x1 (column_y job j) (tested_height job kind job.top);
-  c = point_at job.area.x1 (column_y job j) (tested_height job kind job.top);
+-- the tops of the uncut row, as a flat triangle, from its least x to its greatest
+abbrev pub uncut_tri : JobFields → ℕ → Tri
+uncut_tri job j = record {
+  a = point_at job.area.x0 (column_y job j) job.top;
+  b = point_at job.area.x1 (column_y job j) job.top;
+  c = point_at job.area.x1 (column_y job j) job.top;
 }
 
 -- ---- the tests of a move by a row
 
--- what a row is tried with: a solid, the move that its tip makes, and the kind of move at whose heights
+-- what a row is tried with: a solid, the tool's move, and the kind of move at whose heights
 pub record Test : Type 0 where
-  pub solid : Cutter
+  pub solid : Solid
   pub move : Move
   pub kind : Kind
 
 -- the cutter's test, as a move of this kind is tested
 abbrev pub cutting : JobFields → Kind → Move → Test
-cutting job kind m = record { solid = job.cutter; move = m; kind = kind }
+cutting job kind m = record { solid = at_tip job.cutter; move = m; kind = kind }
 
--- the holder's test of a move of the cutter under it: its solid, over the cutter's tip by the stickout, at the columns' tops
-abbrev pub holding : Holder → Move → Test
-holding holder m = record { solid = solid_of holder; move = lifted holder m; kind = Rapid }
+-- the holder's test of a move of the cutter under it, at the columns' tops
+abbrev pub holding : Solid → Move → Test
+holding holder m = record { solid = holder; move = m; kind = Rapid }
 
 -- the test passes column i, at the point at which a move of its kind is tested
 abbrev pub PassesAt : JobFields → Test → RowState → ℕ → Type 0
-PassesAt job test r i = PassesPoint test.solid test.move (row_point job test.kind r i)
+PassesAt job test r i = SolidPassesPoint test.solid test.move (row_point job test.kind r i)
 
 -- so it passes each column of the row
 abbrev pub PassesRow : JobFields → Test → RowState → Type 0
@@ -88,14 +84,14 @@ PassesRow job test r = (i : ℕ) → i < column_count job → PassesAt job test 
 pub record IsFirstStop (job : JobFields) (test : Test) (r : RowState) (i : ℕ) (leaf : Leaf) : Type 0 where
   pub column : i < column_count job
   pub before : (k : ℕ) → k < i → PassesAt job test r k
-  pub fails : FailsAt test.solid test.move (point_tri (row_point job test.kind r i)) leaf
+  pub fails : SolidFailsAt test.solid test.move (point_tri (row_point job test.kind r i)) leaf
 
 -- the tested point of column i blocks this segment of the test's move
 abbrev pub IsColumnBlocked : JobFields → Test → RowState → ℕ → Leaf → Type 0
-IsColumnBlocked job test r i leaf = Blocks test.solid (span_of test.move leaf.d leaf.k) (point_tri (row_point job test.kind r i))
+IsColumnBlocked job test r i leaf = SolidIsBlocked test.solid test.move (point_tri (row_point job test.kind r i)) leaf
 
 -- a holder passes the row's tops
-abbrev pub HolderPassesRow : Holder → JobFields → RowState → Move → Type 0
+abbrev pub HolderPassesRow : Solid → JobFields → RowState → Move → Type 0
 HolderPassesRow holder job r m = PassesRow job (holding holder m) r
 
 -- so does the job's, if it has one
@@ -104,7 +100,7 @@ HolderClearsRow job r m = IfSome job.holder (λ holder. HolderPassesRow holder j
 
 -- the job has a holder, and column i is the first whose top it doesn't pass, and the column's top blocks this segment
 pub record IsFirstHolderStop (job : JobFields) (r : RowState) (m : Move) (i : ℕ) (leaf : Leaf) : Type 0 where
-  pub holder : Holder
+  pub holder : Solid
   pub there : job.holder ≡ Some holder
   pub column : IsFirstStop job (holding holder m) r i leaf
   pub blocked : IsColumnBlocked job (holding holder m) r i leaf

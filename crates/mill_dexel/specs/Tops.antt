@@ -11,7 +11,7 @@ use Rattle.mill_base.specs.declared.motion.Kind.TheVariants.{Rapid, Feed}
 use Rattle.mill_job.specs.declared.fields.JobFields.{JobFields}
 use Rattle.mill_job.specs.Columns.{IsColumn, column_x, column_y, column_count}
 use Rattle.mill_sweep.specs.Halving.{PassesPoint}
-use Rattle.mill_sweep.specs.Holders.{HolderPassesPoint}
+use Rattle.mill_sweep.specs.Solids.{SolidPassesPoint}
 use Rattle.mill_dexel.specs.Samples.{samples}
 use Rattle.mill_dexel.specs.declared.sample.Placed.{Placed}
 
@@ -92,7 +92,7 @@ top_point_on job stock j i = point_at (column_x job i) (column_y job j) (stock j
 
 -- the holder, if the job has one, passes each column of a stock on a move, up to its top
 abbrev pub HolderClearsColumnsOn : JobFields → Stock → Move → Type 0
-HolderClearsColumnsOn job stock m = IfSome job.holder (λ holder. (j i : ℕ) → IsColumn job j i → HolderPassesPoint holder m (top_point_on job stock j i))
+HolderClearsColumnsOn job stock m = IfSome job.holder (λ holder. (j i : ℕ) → IsColumn job j i → SolidPassesPoint holder m (top_point_on job stock j i))
 
 -- ---- a further move after a list of moves, from the uncut stock on
 

@@ -1,3 +1,4 @@
 -- What private functions and proofs cite alone: no clause of a public call leads here.
+pub mod Cuts
 pub mod Passing
 pub mod Readiness

@@ -2,7 +2,7 @@ ghost use Rattle.std.specs.Prelude.{◌*◌, ◌+◌, ◌-ℤ◌, ◌<◌, ◌�
 ghost use Rattle.mill_base.specs.Numbers.{Within};
 ghost use Rattle.mill_base.specs.declared.limits.TheConstants.{MAX_COORDINATE, MAX_RADIUS};
 ghost use Rattle.mill_base.specs.Sizes.{HasRadius};
-ghost use Rattle.mill_dexel.specs.Cuts.{IsBeyond, IsHalfChord};
+ghost use Rattle.mill_dexel.specs.inner.Cuts.{IsBeyond, IsHalfChord};
 
 /// At least half of the chord at which the row at `y` crosses the circle of the radius round
 /// `middle`. There is none where the row stands at least the radius away.

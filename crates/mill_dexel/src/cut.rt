@@ -9,7 +9,7 @@ ghost use Rattle.mill_job.specs.Jobs.{IsJob};
 ghost use Rattle.mill_dexel.specs.Samples.{IsSample};
 ghost use Rattle.mill_dexel.specs.Tops.{top_after_sample, tops_after_move};
 ghost use Rattle.mill_dexel.specs.Rows.{top_at};
-ghost use Rattle.mill_dexel.specs.Cuts.{IsCutAt, IsCutBy};
+ghost use Rattle.mill_dexel.specs.inner.Cuts.{IsCutAt, IsCutBy};
 
 use crate::chord::half_chord;
 use crate::reach::{is_beyond, reach_by};

@@ -1,13 +1,12 @@
 ghost use Rattle.std.specs.Prelude.{◌≡◌, ℕ, ◌<◌, ◌≤◌, ◌*◌, ◌^◌, IsTrue, pos, ◌+ℤ◌, ◌*ℤ◌, ◌≤ℤ◌, ◌<ℤ◌};
 ghost use Rattle.mill_base.specs.Numbers.{Within};
-ghost use Rattle.mill_base.specs.Sizes.{radius_of};
-ghost use Rattle.mill_base.specs.Tools.{IsHolder};
-ghost use Rattle.mill_base.specs.declared.limits.TheConstants.{MAX_LAST_REACH};
+ghost use Rattle.mill_base.specs.Sizes.{IsCutter};
 ghost use Rattle.mill_job.specs.Jobs.{IsJob};
-ghost use Rattle.mill_dexel.specs.Cuts.{IsReach, IsReachAlong, IsReachBy, IsRowReach, IsBeyond};
+ghost use Rattle.mill_sweep.specs.Reach.{margin_of};
+ghost use Rattle.mill_dexel.specs.inner.Cuts.{IsReachAlong, IsReachBy, IsRowReach, IsBeyond};
 ghost use Rattle.mill_dexel.specs.inner.Passing.{IsAway};
 
-use mill_base::{Holder, MAX_LAST_REACH, Pt3};
+use mill_base::{Cutter, MAX_LAST_REACH, Pt3};
 use mill_job::Job;
 
 /// The numbers of the columns of a row, or of the rows, that a move may touch: from `first` on, before `end`.
@@ -26,21 +25,14 @@ struct Places {
     count: u32,
 }
 
-/// The columns that stand nearer than the cutter's radius and the greatest last reach to the interval
-/// between two points in x. A move between these points passes each other column.
-pub(crate) fn reach_of(job: &Job, from: Pt3, to: Pt3) -> Reach
-    ensures { IsReach job.now.fields from.x to.x result.first result.end }
+/// The columns that stand nearer than the radius of a cutter, or of a holder's shape, and the greatest
+/// last reach to the interval between two points in x. On a move between these points it passes each
+/// other column.
+pub(crate) fn reach_of(job: &Job, cutter: Cutter, from: Pt3, to: Pt3) -> Reach
+    requires { IsCutter cutter }
+    ensures { IsReachBy job.now.fields (margin_of cutter) from.x to.x result.first result.end }
 {
-    reach_by(job, passing_distance(job), from.x, to.x)
-}
-
-/// The same by the holder's radius. The holder passes each other column on such a move.
-pub(crate) fn holder_reach(job: &Job, holder: &Holder, from: Pt3, to: Pt3) -> Reach
-    requires { IsHolder holder.now }
-    ensures { IsReachBy job.now.fields (holder.now.radius +ℤ pos MAX_LAST_REACH) from.x to.x
-        result.first result.end }
-{
-    reach_by(job, holder_distance(holder), from.x, to.x)
+    reach_by(job, passing_distance(cutter), from.x, to.x)
 }
 
 /// The columns that stand nearer than `distance` to the interval between two places in x.
@@ -66,7 +58,7 @@ pub(crate) fn row_reach(job: &Job, from: Pt3, to: Pt3) -> Reach
         pitch: job.fields.pitch,
         count: job.rows(),
     };
-    reach_along(rows, passing_distance(job), from.y, to.y)
+    reach_along(rows, passing_distance(job.fields.cutter), from.y, to.y)
 }
 
 /// The places that are nearer than `distance` to the interval between two others.
@@ -137,22 +129,13 @@ pub(crate) fn is_beyond(y: i32, distance: i32, from: i32, to: i32) -> bool
     y > high_end(distance, from, to)
 }
 
-/// Whether a row at `y` stands so far away from the interval between two places in y that a move
-/// within it passes the row and leaves it uncut.
-pub(crate) fn is_apart(job: &Job, y: i32, from: i32, to: i32) -> bool
-    ensures { IsTrue result →
-        IsBeyond (radius_of job.now.fields.cutter +ℤ pos MAX_LAST_REACH) from to y }
+/// Whether a row at `y` stands so far away from the interval between two places in y that a cutter, or a
+/// holder's shape, passes the row on a move within it. The job's cutter leaves it uncut then too.
+pub(crate) fn is_apart(cutter: Cutter, y: i32, from: i32, to: i32) -> bool
+    requires { IsCutter cutter }
+    ensures { IsTrue result → IsBeyond (margin_of cutter) from to y }
 {
-    is_beyond(y, passing_distance(job), from, to)
-}
-
-/// Whether a row at `y` stands so far away from the interval between two places in y that the holder
-/// passes the row on a move within it.
-pub(crate) fn is_holder_apart(holder: &Holder, y: i32, from: i32, to: i32) -> bool
-    requires { IsHolder holder.now }
-    ensures { IsTrue result → IsBeyond (holder.now.radius +ℤ pos MAX_LAST_REACH) from to y }
-{
-    is_beyond(y, holder_distance(holder), from, to)
+    is_beyond(y, passing_distance(cutter), from, to)
 }
 
 /// Whether a row at `y` stands so far away from the interval between two places in y that a move
@@ -160,25 +143,17 @@ pub(crate) fn is_holder_apart(holder: &Holder, y: i32, from: i32, to: i32) -> bo
 pub(crate) fn is_away(job: &Job, y: i32, from: i32, to: i32) -> bool
     ensures { IsTrue result → IsAway job.now.fields from to y }
 {
-    match &job.fields.holder {
-        None => is_apart(job, y, from, to),
-        Some(holder) => is_holder_apart(holder, y, from, to),
+    match job.fields.holder {
+        None => is_apart(job.fields.cutter, y, from, to),
+        Some(holder) => is_apart(holder.cutter(), y, from, to),
     }
 }
 
-/// How far away from a move in x or in y a column stands at least that the holder passes: its radius
+/// How far away from a move in x or in y a column stands at least that the cutter passes: its radius
 /// and the greatest last reach.
-fn holder_distance(holder: &Holder) -> i32
-    requires { IsHolder holder.now }
-    ensures { result ≡ holder.now.radius +ℤ pos MAX_LAST_REACH }
+fn passing_distance(cutter: Cutter) -> i32
+    requires { IsCutter cutter }
+    ensures { result ≡ margin_of cutter }
 {
-    holder.radius + MAX_LAST_REACH as i32
-}
-
-/// How far away from a move in x or in y a column stands at least that the move passes: the cutter's
-/// radius and the greatest last reach.
-fn passing_distance(job: &Job) -> i32
-    ensures { result ≡ radius_of job.now.fields.cutter +ℤ pos MAX_LAST_REACH }
-{
-    job.fields.cutter.radius() + MAX_LAST_REACH as i32
+    cutter.radius() + MAX_LAST_REACH as i32
 }

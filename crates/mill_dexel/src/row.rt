@@ -1,24 +1,22 @@
 ghost use Rattle.std.specs.Prelude.{◌≡◌, ℕ, ◌-◌, ◌<◌, ◌≤◌, ◌+ℤ◌, ◌≤ℤ◌, false, length, None, Some, IfOk, IfSome, IsTrue, MatchOption};
-ghost use Rattle.mill_base.specs.Numbers.{Within};
-ghost use Rattle.mill_base.specs.declared.limits.TheConstants.{MAX_COORDINATE};
 ghost use Rattle.mill_base.specs.Ranges.{MoveInRange, MovesInRange};
-ghost use Rattle.mill_base.specs.Tools.{IsHolder};
+ghost use Rattle.mill_base.specs.Solids.{IsLift};
 ghost use Rattle.mill_base.specs.declared.motion.Kind.TheVariants.{Rapid, Feed};
 ghost use Rattle.mill_job.specs.Columns.{row_count, column_count};
 ghost use Rattle.mill_job.specs.Jobs.{IsFrom, IsJob};
 ghost use Rattle.mill_dexel.specs.inner.Passing.{PassesBeside, PassesOver, trying};
 ghost use Rattle.mill_dexel.specs.inner.Readiness.{IsNext};
-ghost use Rattle.mill_dexel.specs.Cuts.{IsCutAt};
+ghost use Rattle.mill_dexel.specs.inner.Cuts.{IsCutAt};
 ghost use Rattle.mill_dexel.specs.Tops.{IsTested, tested_height as tested_height_of, tops_after_move};
-ghost use Rattle.mill_dexel.specs.Rows.{IsRowOf, cutting, holding, PassesRow, HolderPassesRow, HolderClearsRow, IsFirstStop, IsColumnBlocked, IsFirstHolderStop, restarted, row_point, top_at, uncut_row, uncut_tri};
+ghost use Rattle.mill_dexel.specs.Rows.{IsRowOf, cutting, PassesRow, HolderClearsRow, IsFirstStop, IsColumnBlocked, IsFirstHolderStop, restarted, row_point, top_at, uncut_row, uncut_tri};
 ghost use Rattle.mill_dexel.specs.Turns.{ClearsRow, CutClearsRow, CutStopsAt, IsLeftBy, IsRowStopped, StopsRow, move_at, row_before, turned};
 
 use crate::band::Band;
 use crate::bands::Bands;
 use crate::cut::cut_move;
 use crate::fail::{RowFail, RowTest};
-use crate::reach::{Reach, holder_reach, is_apart, is_away, is_holder_apart, reach_of};
-use mill_base::{Holder, Kind, Move, Pt3, Tri, WantOfMemory};
+use crate::reach::{Reach, is_apart, is_away, reach_of};
+use mill_base::{Kind, Move, Pt3, Solid, Tri, WantOfMemory};
 use mill_job::Job;
 use mill_sweep::{Leaf, Sweep, passes_tri};
 use std::alloc::Global;
@@ -102,7 +100,10 @@ impl Row {
         ensures first { MatchOption result (PassesRow job.now.fields (cutting job.now.fields Rapid step.now) self.now) (λ s. IsFirstStop job.now.fields (cutting job.now.fields Rapid step.now) self.now s.0 s.1) }
         ensures blocked { IfSome result (λ s. IsColumnBlocked job.now.fields (cutting job.now.fields Rapid step.now) self.now s.0 s.1) }
     {
-        self.first_stop(job, Kind::Rapid, step)
+        if self.is_passed_uncut(job, step) {
+            return None;
+        }
+        self.first_stop(job, Solid::at_tip(job.fields.cutter), Kind::Rapid, step)
     }
 
     /// The first column in which the move, as a feed, would cut too deep, with the segment of the move at
@@ -121,7 +122,7 @@ impl Row {
         if job.fields.max_cut == 0 {
             return None;
         }
-        self.first_stop(job, Kind::Feed, step)
+        self.first_stop(job, Solid::at_tip(job.fields.cutter), Kind::Feed, step)
     }
 
     /// The first column whose top the job's holder doesn't pass at every moment of the move, with the segment
@@ -133,9 +134,9 @@ impl Row {
         requires step { MoveInRange step.now }
         ensures { MatchOption result (HolderClearsRow job.now.fields self.now step.now) (λ s. IsFirstHolderStop job.now.fields self.now step.now s.0 s.1) }
     {
-        match &job.fields.holder {
+        match job.fields.holder {
             None => None,
-            Some(holder) => self.first_held(job, holder, step),
+            Some(holder) => self.first_stop(job, holder, Kind::Rapid, step),
         }
     }
 
@@ -331,45 +332,58 @@ impl Row {
         }
     }
 
-    /// The first column that the move doesn't pass at every moment, at the point at which one of this
-    /// kind is tested, with the segment of the move at which the test fails; none where it passes them
-    /// all.
-    fn first_stop(&self, job: &Job, kind: Kind, step: &Move) -> Option<(u32, Leaf)>
+    /// The first column that the solid doesn't pass at every moment of the move, at the point at which a move
+    /// of this kind is tested, with the segment of the move at which the test fails; none where it passes
+    /// them all. Most moves are far away in y, and that is seen first, and then whether the solid stays over
+    /// the uncut row.
+    fn first_stop(&self, job: &Job, solid: Solid, kind: Kind, step: &Move) -> Option<(u32, Leaf)>
         requires row { IsRowOf job.now.fields self.now }
         requires step { MoveInRange step.now }
-        ensures first { MatchOption result (PassesRow job.now.fields (cutting job.now.fields kind step.now) self.now) (λ s. IsFirstStop job.now.fields (cutting job.now.fields kind step.now) self.now s.0 s.1) }
-        ensures blocked { IfSome result (λ s. IsColumnBlocked job.now.fields (cutting job.now.fields kind step.now) self.now s.0 s.1) }
+        ensures first { MatchOption result (PassesRow job.now.fields (trying solid kind step.now) self.now) (λ s. IsFirstStop job.now.fields (trying solid kind step.now) self.now s.0 s.1) }
+        ensures blocked { IfSome result (λ s. IsColumnBlocked job.now.fields (trying solid kind step.now) self.now s.0 s.1) }
     {
-        if self.is_passed_uncut(job, kind, step) {
+        let cutter = solid.cutter();
+        let lift = solid.lift();
+        if is_apart(cutter, job.row_y(self.number), step.from.y, step.to.y) {
             return None;
         }
-        let reach = reach_of(job, step.from, step.to);
-        let first = self.first_over(job, kind, lower_end(step), reach);
+        let low = lower_end(step, lift);
+        if tested_height(job, kind, job.fields.top) <= low {
+            return None;
+        }
+        let reach = reach_of(job, cutter, step.from, step.to);
+        let first = self.first_over(job, kind, low, reach);
         if first >= reach.end {
             return None;
         }
-        let sweep = Sweep::new(job.fields.cutter, step);
-        first_tried(self, job, kind, &sweep, first, reach.end)
+        self.first_tried(job, solid, kind, step, Reach { first, ..reach })
     }
 
-    /// The same by the holder, which is tested at the columns' tops.
-    fn first_held(&self, job: &Job, holder: &Holder, step: &Move) -> Option<(u32, Leaf)>
+    /// The first column that the solid doesn't pass, as `first_stop` finds it. Only these columns are tried; it
+    /// is known to pass the others.
+    fn first_tried(
+        &self,
+        job: &Job,
+        solid: Solid,
+        kind: Kind,
+        step: &Move,
+        columns: Reach,
+    ) -> Option<(u32, Leaf)>
         requires row { IsRowOf job.now.fields self.now }
-        requires holder { IsHolder holder.now }
         requires step { MoveInRange step.now }
-        ensures first { MatchOption result (HolderPassesRow holder.now job.now.fields self.now step.now) (λ s. IsFirstStop job.now.fields (holding holder.now step.now) self.now s.0 s.1) }
-        ensures blocked { IfSome result (λ s. IsColumnBlocked job.now.fields (holding holder.now step.now) self.now s.0 s.1) }
+        requires within { columns.end ≤ column_count job.now.fields }
+        requires beside { PassesBeside job.now.fields (trying solid kind step.now) self.now columns.first columns.end }
+        ensures first { MatchOption result (PassesRow job.now.fields (trying solid kind step.now) self.now) (λ s. IsFirstStop job.now.fields (trying solid kind step.now) self.now s.0 s.1) }
+        ensures blocked { IfSome result (λ s. IsColumnBlocked job.now.fields (trying solid kind step.now) self.now s.0 s.1) }
     {
-        if is_holder_apart(holder, job.row_y(self.number), step.from.y, step.to.y) {
-            return None;
+        let sweep = Sweep::new(solid, step);
+        for column in columns.first..columns.end {
+            let point = self.tested_point(job, kind, column);
+            if let Some(leaf) = sweep.first_block_point(point) {
+                return Some((column, leaf));
+            }
         }
-        let reach = holder_reach(job, holder, step.from, step.to);
-        let first = self.first_over(job, Kind::Rapid, holder_end(holder, step), reach);
-        if first >= reach.end {
-            return None;
-        }
-        let sweep = Sweep::of_holder(holder, step);
-        first_tried(self, job, Kind::Rapid, &sweep, first, reach.end)
+        None
     }
 
     /// The first of these columns whose tested point is over this height; the end of them where there is
@@ -389,28 +403,24 @@ impl Row {
         reach.end
     }
 
-    /// Whether the move passes even the uncut row, and so every column of this one. Most moves are far
-    /// away in y, and that is seen first.
+    /// Whether a rapid passes even the uncut row, and so every column of this one. Most rapids are far away
+    /// in y, and that is seen first.
     ///
-    /// A feed is tested only under a limit on the depth of cut, and it seldom passes the uncut row but
-    /// by its height, so it isn't halved for that.
-    fn is_passed_uncut(&self, job: &Job, kind: Kind, step: &Move) -> bool
+    /// A feed, or a holder, seldom passes the uncut row but by its height, so neither is halved for that.
+    fn is_passed_uncut(&self, job: &Job, step: &Move) -> bool
         requires row { IsRowOf job.now.fields self.now }
         requires step { MoveInRange step.now }
-        ensures { IsTrue result → PassesRow job.now.fields (cutting job.now.fields kind step.now) self.now }
+        ensures { IsTrue result → PassesRow job.now.fields (cutting job.now.fields Rapid step.now) self.now }
     {
-        let y = job.row_y(self.number);
-        if is_apart(job, y, step.from.y, step.to.y) {
+        let cutter = job.fields.cutter;
+        if is_apart(cutter, job.row_y(self.number), step.from.y, step.to.y) {
             return true;
         }
-        match kind {
-            Kind::Rapid => passes_tri(
-                job.fields.cutter,
-                step,
-                &uncut_triangle(job, kind, self.number),
-            ),
-            Kind::Feed => tested_height(job, kind, job.fields.top) <= lower_end(step),
-        }
+        passes_tri(
+            Solid::at_tip(cutter),
+            step,
+            &uncut_triangle(job, self.number),
+        )
     }
 
     /// The point of a column at which a move of this kind is tested.
@@ -436,50 +446,14 @@ impl Row {
     }
 }
 
-/// The first column of the row that a solid doesn't pass on its move, at the point at which a move of this
-/// kind is tested, with the segment at which the test fails; none where it passes them all. Only the
-/// columns from `first` on, before `end`, are tried; it is known to pass the others.
-fn first_tried(
-    row: &Row,
-    job: &Job,
-    kind: Kind,
-    sweep: &Sweep,
-    first: u32,
-    end: u32,
-) -> Option<(u32, Leaf)>
-    requires row { IsRowOf job.now.fields row.now }
-    requires within { end ≤ column_count job.now.fields }
-    requires beside { PassesBeside job.now.fields (trying sweep.now kind) row.now first end }
-    ensures first { MatchOption result (PassesRow job.now.fields (trying sweep.now kind) row.now) (λ s. IsFirstStop job.now.fields (trying sweep.now kind) row.now s.0 s.1) }
-    ensures blocked { IfSome result (λ s. IsColumnBlocked job.now.fields (trying sweep.now kind) row.now s.0 s.1) }
-{
-    for column in first..end {
-        let point = row.tested_point(job, kind, column);
-        if let Some(leaf) = sweep.first_block_point(point) {
-            return Some((column, leaf));
-        }
-    }
-    None
-}
-
-/// The height of the move's lower end.
-fn lower_end(step: &Move) -> i32
-    requires { MoveInRange step.now }
-    ensures from { result ≤ℤ step.now.from.z }
-    ensures to { result ≤ℤ step.now.to.z }
-    ensures bound { Within MAX_COORDINATE result }
-{
-    step.from.z.min(step.to.z)
-}
-
-/// The height of the lower end of the holder's way on the move.
-fn holder_end(holder: &Holder, step: &Move) -> i32
-    requires holder { IsHolder holder.now }
+/// The height of the lower end of a solid's way on the move, whose tip is `lift` over the move.
+fn lower_end(step: &Move, lift: i32) -> i32
     requires step { MoveInRange step.now }
-    ensures from { result ≤ℤ (step.now.from.z +ℤ holder.now.stickout) }
-    ensures to { result ≤ℤ (step.now.to.z +ℤ holder.now.stickout) }
+    requires lift { IsLift lift }
+    ensures from { result ≤ℤ (step.now.from.z +ℤ lift) }
+    ensures to { result ≤ℤ (step.now.to.z +ℤ lift) }
 {
-    lower_end(step) + holder.stickout
+    step.from.z.min(step.to.z) + lift
 }
 
 /// Where the move before move `t` ends; none before the first.
@@ -508,13 +482,13 @@ fn tested_height(job: &Job, kind: Kind, top: i32) -> i32
     }
 }
 
-/// The points of the uncut row at which a move of this kind is tested, as a flat triangle.
-fn uncut_triangle(job: &Job, kind: Kind, number: u32) -> Tri
+/// The tops of the uncut row, as a flat triangle.
+fn uncut_triangle(job: &Job, number: u32) -> Tri
     requires { number < row_count job.now.fields }
-    ensures { result ≡ uncut_tri job.now.fields kind number }
+    ensures { result ≡ uncut_tri job.now.fields number }
 {
     let y = job.row_y(number);
-    let z = tested_height(job, kind, job.fields.top);
+    let z = job.fields.top;
     let west = Pt3 {
         x: job.fields.area.x0,
         y,

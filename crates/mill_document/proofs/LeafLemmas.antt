@@ -4,19 +4,19 @@ use Rattle.std.proofs.lemmas.Bool.{cases_lt}
 use Rattle.std.proofs.lemmas.Bool.Decides.{nat_tests}
 use Rattle.std.proofs.lemmas.Grind.{pow_more}
 use Rattle.std.proofs.lemmas.Int.{ints}
-use Rattle.std.specs.Prelude.{ℤ, ◌+ℤ◌, ◌-ℤ◌, ◌&&◌, nat_abs, nat_le}
+use Rattle.std.specs.Prelude.{ℤ, pos, ◌+ℤ◌, ◌-ℤ◌, ◌&&◌, nat_abs, nat_le}
+use Rattle.mill_base.proofs.SolidLemmas.{higher_once}
 use Rattle.mill_base.specs.Numbers.{least_from}
 use Rattle.mill_base.specs.Ranges.{MoveInRange}
-use Rattle.mill_base.specs.Tools.{solid_of}
+use Rattle.mill_base.specs.Solids.{Solid, higher, lifted}
 use Rattle.mill_base.specs.declared.cutter.Cutter.{Cutter}
 use Rattle.mill_base.specs.declared.limits.TheConstants.{MAX_COORDINATE, MAX_DEPTH}
 use Rattle.mill_base.specs.declared.motion.Move.{Move}
 use Rattle.mill_base.specs.declared.points.Tri.{Tri}
-use Rattle.mill_base.specs.declared.tool.Holder.{Holder}
 use Rattle.mill_document.specs.inner.Leaves.{IsLeaf}
-use Rattle.mill_sweep.specs.Halving.{FailsAt, LeadsTo}
-use Rattle.mill_sweep.specs.Holders.{HolderFailsAt, lifted}
+use Rattle.mill_sweep.specs.Halving.{LeadsTo}
 use Rattle.mill_sweep.specs.Leaves.{depth_of, length_x, length_y, length_z}
+use Rattle.mill_sweep.specs.Solids.{SolidFailsAt}
 use Rattle.mill_sweep.specs.declared.leaf.Leaf.{Leaf}
 
 -- ---- how deep a move is halved
@@ -49,18 +49,16 @@ depth_by m x y z =
 near : (a b : ℤ) → nat_abs a ≤ MAX_COORDINATE → nat_abs b ≤ MAX_COORDINATE → nat_abs (b -ℤ a) ≤ 2 ^ MAX_DEPTH
 near a b a_ok b_ok = omega (arith, ints)
 
-near_lifted : (a b h : ℤ) → nat_abs a ≤ MAX_COORDINATE → nat_abs b ≤ MAX_COORDINATE → nat_abs ((b +ℤ h) -ℤ (a +ℤ h)) ≤ 2 ^ MAX_DEPTH
-near_lifted a b h a_ok b_ok = omega (arith, ints)
+near_higher : (a b lift : ℤ) → nat_abs a ≤ MAX_COORDINATE → nat_abs b ≤ MAX_COORDINATE → nat_abs (higher (pos 1) b lift -ℤ higher (pos 1) a lift) ≤ 2 ^ MAX_DEPTH
+near_higher a b lift a_ok b_ok = rw (higher_once b lift, higher_once a lift) (both_higher a b lift a_ok b_ok)
+  where
+    both_higher : (a b h : ℤ) → nat_abs a ≤ MAX_COORDINATE → nat_abs b ≤ MAX_COORDINATE → nat_abs ((b +ℤ h) -ℤ (a +ℤ h)) ≤ 2 ^ MAX_DEPTH
+    both_higher a b h a_ok b_ok = omega (arith, ints)
 
-depth_most : (m : Move) → MoveInRange m → depth_of m ≤ MAX_DEPTH
-depth_most m range =
-    depth_by m (near m.from.x m.to.x range.from_ok.x_ok.within range.to_ok.x_ok.within) (near m.from.y m.to.y range.from_ok.y_ok.within range.to_ok.y_ok.within)
-    (near m.from.z m.to.z range.from_ok.z_ok.within range.to_ok.z_ok.within)
-
-depth_most_lifted : (holder : Holder) (m : Move) → MoveInRange m → depth_of (lifted holder m) ≤ MAX_DEPTH
-depth_most_lifted holder m range =
-    depth_by (lifted holder m) (near m.from.x m.to.x range.from_ok.x_ok.within range.to_ok.x_ok.within) (near m.from.y m.to.y range.from_ok.y_ok.within range.to_ok.y_ok.within)
-    (near_lifted m.from.z m.to.z holder.stickout range.from_ok.z_ok.within range.to_ok.z_ok.within)
+depth_most : (solid : Solid) (m : Move) → MoveInRange m → depth_of (lifted solid m) ≤ MAX_DEPTH
+depth_most solid m range =
+    depth_by (lifted solid m) (near m.from.x m.to.x range.from_ok.x_ok.within range.to_ok.x_ok.within) (near m.from.y m.to.y range.from_ok.y_ok.within range.to_ok.y_ok.within)
+    (near_higher m.from.z m.to.z solid.lift range.from_ok.z_ok.within range.to_ok.z_ok.within)
 
 -- ---- the leaf
 
@@ -83,14 +81,9 @@ leads_within cutter m tri (suc more) d k leaf (inr right) lt =
     let deep = h.0 in
     (omega arith, h.1)
 
-leaf_within : (cutter : Cutter) (m : Move) (tri : Tri) (leaf : Leaf) → depth_of m ≤ MAX_DEPTH → FailsAt cutter m tri leaf → IsLeaf leaf
-leaf_within cutter m tri leaf deep fails =
-    let h = leads_within cutter m tri (depth_of m) 0 0 leaf fails.leads (omega arith) in
+pub failing_leaf : (solid : Solid) (m : Move) (tri : Tri) (leaf : Leaf) → MoveInRange m → SolidFailsAt solid m tri leaf → IsLeaf leaf
+failing_leaf solid m tri leaf range fails =
+    let deep = depth_most solid m range in
+    let h = leads_within solid.cutter (lifted solid m) tri (depth_of (lifted solid m)) 0 0 leaf fails.leads (omega arith) in
     let least = h.0 in
     record { depth = omega arith; number = h.1 }
-
-pub failing_leaf : (cutter : Cutter) (m : Move) (tri : Tri) (leaf : Leaf) → MoveInRange m → FailsAt cutter m tri leaf → IsLeaf leaf
-failing_leaf cutter m tri leaf range fails = leaf_within cutter m tri leaf (depth_most m range) fails
-
-pub held_leaf : (holder : Holder) (m : Move) (tri : Tri) (leaf : Leaf) → MoveInRange m → HolderFailsAt holder m tri leaf → IsLeaf leaf
-held_leaf holder m tri leaf range fails = leaf_within (solid_of holder) (lifted holder m) tri leaf (depth_most_lifted holder m range) fails

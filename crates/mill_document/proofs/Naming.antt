@@ -3,6 +3,7 @@ use Rattle.std.proofs.Common.{◌≡◌, ℕ, List, refl}
 use Rattle.std.specs.Prelude.{ℤ, Option, IfSome}
 use Rattle.mill_base.specs.Points.{tri_at}
 use Rattle.mill_base.specs.Ranges.{MoveInRange}
+use Rattle.mill_base.specs.Solids.{at_tip}
 use Rattle.mill_base.specs.declared.motion.Move.{Move}
 use Rattle.mill_base.specs.declared.points.Tri.{Tri}
 use Rattle.mill_document.specs.Details.{column_numbers, column_of, failure_of, leaf_of, segment_of, test_of, triangle_of}
@@ -12,7 +13,7 @@ use Rattle.mill_document.specs.declared.failure.Segment.{Segment}
 use Rattle.mill_document.specs.declared.failure.Test.{Test}
 use Rattle.mill_document.specs.declared.failure.Triangle.{Triangle}
 use Rattle.mill_document.specs.inner.Leaves.{IsLeaf}
-use Rattle.mill_document.proofs.LeafLemmas.{failing_leaf, held_leaf}
+use Rattle.mill_document.proofs.LeafLemmas.{failing_leaf}
 use Rattle.mill_dexel.specs.Turns.{move_at}
 use Rattle.mill_job.specs.Columns.{IsColumn}
 use Rattle.mill_job.specs.declared.fields.JobFields.{JobFields}
@@ -31,11 +32,11 @@ names_column job part moves (Left j i top) f = tt
 
 pub names_leaf : (job : JobFields) (part : List Tri) (moves : List Move) (reason : Reason) → MoveInRange (move_at moves (move_of reason)) → IsFinding job part moves reason → IfSome (leaf_of reason) IsLeaf
 names_leaf job part moves (Floor k) range f = tt
-names_leaf job part moves (Gouge k t leaf) range f = failing_leaf job.cutter (move_at moves k) (tri_at part t) leaf range f.fails.rejects.fails
-names_leaf job part moves (Holder k t leaf) range f = held_leaf f.fails.rejects.holder (move_at moves k) (tri_at part t) leaf range f.fails.rejects.fails
-names_leaf job part moves (Rapid k j i leaf) range f = failing_leaf job.cutter (move_at moves k) _ leaf range f.fails.rejects.fails
-names_leaf job part moves (Cut k j i leaf) range f = failing_leaf job.cutter (move_at moves k) _ leaf range f.fails.rejects.fails
-names_leaf job part moves (HolderStock k j i leaf) range f = held_leaf f.fails.rejects.holder (move_at moves k) _ leaf range f.fails.rejects.fails
+names_leaf job part moves (Gouge k t leaf) range f = failing_leaf (at_tip job.cutter) (move_at moves k) (tri_at part t) leaf range f.fails.rejects.fails
+names_leaf job part moves (Holder k t leaf) range f = failing_leaf f.fails.rejects.holder (move_at moves k) (tri_at part t) leaf range f.fails.rejects.fails
+names_leaf job part moves (Rapid k j i leaf) range f = failing_leaf (at_tip job.cutter) (move_at moves k) _ leaf range f.fails.rejects.fails
+names_leaf job part moves (Cut k j i leaf) range f = failing_leaf (at_tip job.cutter) (move_at moves k) _ leaf range f.fails.rejects.fails
+names_leaf job part moves (HolderStock k j i leaf) range f = failing_leaf f.fails.rejects.holder (move_at moves k) _ leaf range f.fails.rejects.fails
 names_leaf job part moves (Left j i top) range f = tt
 
 abbrev made : ℕ → ℕ → Test → Option Triangle → Option Column → Option Segment → Option ℤ → Failure

@@ -6,10 +6,9 @@ use Rattle.std.proofs.lemmas.List.{length-map, get_or-map, get_or_default}
 use Rattle.std.proofs.lemmas.List.Elements.{Contains-get_or}
 use lib.IntN.{ℤ, pos, ◌-ℤ◌}
 use lib.Signed.{◌<ℤ◌, ◌≤ℤ◌}
-use Rattle.mill_base.specs.Numbers.{Within}
-use Rattle.mill_base.specs.declared.limits.TheConstants.{MAX_COORDINATE}
 use Rattle.mill_base.specs.Points.{point_at, highest}
 use Rattle.mill_base.specs.Sizes.{IsCutter}
+use Rattle.mill_base.specs.Solids.{at_tip}
 use Rattle.mill_base.specs.declared.points.Tri.{Tri}
 use Rattle.mill_base.specs.declared.points.Box2.{Box2}
 use Rattle.mill_base.specs.declared.cutter.Cutter.{Cutter}
@@ -17,8 +16,9 @@ use Rattle.mill_cells.specs.Boxes.{Meet, IsNear, box_of, boxes_of, origin_box}
 use Rattle.mill_cells.specs.Ahead.{Ahead, Comes, NoneComes, AreDealt}
 use Rattle.mill_cells.specs.Sorted.{Sorted, sorted_of, top_at}
 use Rattle.mill_cells.proofs.PassedLemmas.{deals_on, deals_last, top_is}
-use Rattle.mill_drop.specs.inner.Cutters.{TouchesAt, CutterGougesAt, IsRaised, IsCutterDrop}
+use Rattle.mill_drop.specs.inner.Solids.{TouchesAt, CutterGougesAt, IsRaised, IsSolidDrop}
 use Rattle.mill_drop.specs.inner.Near.{AreFree, square_about}
+use Rattle.mill_drop.specs.inner.Spindles.{IsTipHeight}
 use Rattle.mill_drop.proofs.Heights.{lowered, has_radius, over_top_free}
 use Rattle.mill_drop.proofs.NearLemmas.{touching_meets}
 
@@ -43,6 +43,17 @@ raised_twice cutter part x y a b c h k = record {
   ];
 }
 
+-- a height that is raised once more, by one triangle of the part
+pub raised_on : (cutter : Cutter) (part : List Tri) (x y from height new : ℤ) (i : ℕ) (d : Tri) → i < length part → IsRaised cutter part x y from height
+    → height ≤ℤ new → (new ≡ height) ⊎ TouchesAt cutter (get_or part i d) x y (new -ℤ pos 1) → IsRaised cutter part x y from new
+raised_on cutter part x y from height new i d inside before more least = raised_twice cutter part x y from height new before (record {
+  kept = more;
+  reached = elim least [
+    | inl same ↦ inl same
+    | inr t ↦ inr (record { tri = get_or part i d; member = Contains-get_or part i d inside; touches = t })
+  ];
+})
+
 -- a triangle is near the place
 abbrev pub IsNearBy : List Tri → Box2 → ℕ → Type 0
 IsNearBy part area i = IsNear (boxes_of part) area i
@@ -54,13 +65,13 @@ IsFree cutter part d x y height i = i < length part → ¬ TouchesAt cutter (get
 -- the numbers ahead are those of triangles, and each near triangle is ahead or the cutter holds nothing of it at this height
 pub record RaisesSoFar (cutter : Cutter) (part : List Tri) (d : Tri) (area : Box2) (x y from : ℤ) (near : Ahead) (height : ℤ) : Type 0 where
   pub raised : IsRaised cutter part x y from height
-  pub bound : Within MAX_COORDINATE height
+  pub bound : IsTipHeight height
   pub tops : near.tops ≡ map highest part
   pub within : (i : ℕ) → Contains near.numbers i → i < length part
   pub dealt : AreDealt (IsNearBy part area) (IsFree cutter part d x y height) near.numbers
 
 -- before the first triangle, those near are ahead
-pub raise_starts : (cutter : Cutter) (part : List Tri) (d : Tri) (area : Box2) (x y from : ℤ) (s : Sorted) (near : Ahead) → Within MAX_COORDINATE from → s ≡ sorted_of part → near.tops ≡ s.tops
+pub raise_starts : (cutter : Cutter) (part : List Tri) (d : Tri) (area : Box2) (x y from : ℤ) (s : Sorted) (near : Ahead) → IsTipHeight from → s ≡ sorted_of part → near.tops ≡ s.tops
     → ((i : ℕ) → Contains near.numbers i ↔ IsNear s.boxes area i) → RaisesSoFar cutter part d area x y from near from
 raise_starts cutter part d area x y from s near ranged e same each = record {
   raised = raised_none cutter part x y from;
@@ -80,16 +91,10 @@ low_top cutter part d x y height tops j ok e le inside t =
     over_top_free cutter (get_or part j d) x y height ok (subst (λ z. z ≤ℤ height) top le) t
 
 pub raise_goes_on : (cutter : Cutter) (part : List Tri) (d : Tri) (area : Box2) (x y from : ℤ) (near later : Ahead) (i : ℕ) (height new : ℤ) → IsCutter cutter → Comes height near i later
-    → RaisesSoFar cutter part d area x y from near height → height ≤ℤ new → Within MAX_COORDINATE new → (¬ TouchesAt cutter (get_or part i d) x y new) → (new ≡ height) ⊎ TouchesAt cutter (get_or part i d) x y (new -ℤ pos 1)
+    → RaisesSoFar cutter part d area x y from near height → height ≤ℤ new → IsTipHeight new → (¬ TouchesAt cutter (get_or part i d) x y new) → (new ≡ height) ⊎ TouchesAt cutter (get_or part i d) x y (new -ℤ pos 1)
     → RaisesSoFar cutter part d area x y from later new
 raise_goes_on cutter part d area x y from near later i height new ok h s more bound free least = record {
-  raised = raised_twice cutter part x y from height new s.raised (record {
-    kept = more;
-    reached = elim least [
-      | inl same ↦ inl same
-      | inr t ↦ inr (record { tri = get_or part i d; member = Contains-get_or part i d (s.within i h.number); touches = t })
-    ];
-  });
+  raised = raised_on cutter part x y from height new i d (s.within i h.number) s.raised more least;
   bound = bound;
   tops = h.tops ∙ s.tops;
   within = λ j c. s.within j (h.rest j c);
@@ -112,12 +117,12 @@ raise_ends cutter part d area x y from near later height ok none s tri m meet t 
     deals_last (IsNearBy part area) (IsFree cutter part d x y height) height near later none (λ j le. low_top cutter part d x y height near.tops j ok s.tops le) s.dealt m.0 near_it m.1
     (subst (λ (u : Tri). TouchesAt cutter u x y height) (sym place) t)
 
--- where the triangles in the square about the place are free, it is the drop height
-pub drop_is : (cutter : Cutter) (part : List Tri) (x y floor height : ℤ) → IsCutter cutter → IsRaised cutter part x y floor height → AreFree cutter part (square_about cutter x y) x y height
-    → IsCutterDrop cutter part x y floor height
-drop_is cutter part x y floor height ok h free = record {
+-- where no triangle of the part is held, a height that was raised so is the drop height
+pub drop_where_free : (cutter : Cutter) (part : List Tri) (x y floor height : ℤ) → IsRaised cutter part x y floor height
+    → ((tri : Tri) → Contains part tri → ¬ TouchesAt cutter tri x y height) → IsSolidDrop (at_tip cutter) part x y floor height
+drop_where_free cutter part x y floor height h free = record {
   kept = h.kept;
-  free = λ higher over g. free g.tri g.member (touching_meets cutter g.tri x y higher (has_radius cutter ok) g.touches) (lowered cutter g.tri x y higher height over g.touches);
+  free = λ higher over g. free g.tri g.member (lowered cutter g.tri x y higher height over g.touches);
   least = λ lower kept under. elim h.reached [
     | inl same ↦ absurd (none lower floor height kept under same)
     | inr g ↦ record { tri = g.tri; member = g.member; touches = lowered cutter g.tri x y (height -ℤ pos 1) lower (next lower height under) g.touches }
@@ -129,3 +134,9 @@ drop_is cutter part x y floor height ok h free = record {
 
     next : (l z : ℤ) → l <ℤ z → l ≤ℤ (z -ℤ pos 1)
     next l z h = omega (arith, ints)
+
+-- so it is where those in the square about the place are free
+pub drop_is : (cutter : Cutter) (part : List Tri) (x y floor height : ℤ) → IsCutter cutter → IsRaised cutter part x y floor height → AreFree cutter part (square_about cutter x y) x y height
+    → IsSolidDrop (at_tip cutter) part x y floor height
+drop_is cutter part x y floor height ok h free =
+    drop_where_free cutter part x y floor height h (λ tri m t. free tri m (touching_meets cutter tri x y height (has_radius cutter ok) t) t)

@@ -19,7 +19,7 @@ use Rattle.mill_base.proofs.Integers.{one-mul-ℤ}
 use Rattle.mill_shape.proofs.Over.{inside_raised}
 use Rattle.mill_shape.proofs.Holding.{holds_over_tip}
 use Rattle.mill_part.proofs.TopLemmas.{corners_under}
-use Rattle.mill_drop.specs.inner.Cutters.{TouchesAt}
+use Rattle.mill_drop.specs.inner.Solids.{TouchesAt}
 use Rattle.mill_drop.proofs.HeightCerts.{mean_low, times_mono}
 
 -- a job's cutter is at least one unit wide

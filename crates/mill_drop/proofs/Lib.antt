@@ -1,3 +1,4 @@
+pub mod Stored
 pub mod Searching
 pub mod HeightCerts
 pub mod Heights
@@ -5,7 +6,7 @@ pub mod NearCerts
 pub mod NearLemmas
 pub mod Dropping
 pub mod Scanning
-pub mod Holders
+pub mod Solids
 pub mod Listed
 pub mod Uniqueness
 pub mod Halving

@@ -13,7 +13,7 @@ use Rattle.mill_base.proofs.Integers.{one-mul-ℤ}
 use Rattle.mill_shape.proofs.Holding.{holds_around}
 use Rattle.mill_cells.specs.Boxes.{Meet, box_of}
 use Rattle.mill_cells.proofs.Meeting.{Overlap, overlapping_meet, least_of_three, greatest_of_three, ends_in_order}
-use Rattle.mill_drop.specs.inner.Cutters.{TouchesAt}
+use Rattle.mill_drop.specs.inner.Solids.{TouchesAt}
 use Rattle.mill_drop.specs.inner.Near.{square_about}
 use Rattle.mill_drop.proofs.HeightCerts.{mean_low}
 use Rattle.mill_drop.proofs.NearCerts.{mean_high, reaches_up, reaches_down}

@@ -16,7 +16,7 @@ use Rattle.mill_base.specs.declared.points.Tri.{Tri}
 use Rattle.mill_base.specs.declared.tool.Tool.{Tool}
 use Rattle.mill_base.proofs.Machine.{stored}
 use Rattle.mill_base.proofs.Ranges.{coordinate}
-use Rattle.mill_drop.specs.Drops.{IsDropHeight}
+use Rattle.mill_drop.specs.Drops.{IsDropHeight, IsHeightFrom, IsToolHeight}
 use Rattle.mill_drop.specs.Maps.{AreDropHeights}
 use Rattle.mill_drop.specs.Paths.{row_lattice, height_at, is_kept_at, is_straight, path_places, tip_over, GoesOn, IsLeg, IsLineOver, IsPath, IsRow, IsTip, KeepsTolerance, OnePath}
 use Rattle.mill_drop.specs.inner.Rows.{AreHeights}
@@ -122,9 +122,9 @@ along_row tool part y x0 x1 floor lattice heights row floor_ok e are =
     rw (coordinate floor floor_ok, same) at are
 
 -- they are heights of a row
-pub are_heights : (tool : Tool) (part : List Tri) (y x0 x1 floor : ℤ) (heights : List ℤ) → IsRow y x0 x1 → AreDropHeights tool part floor (row_lattice y x0 x1) heights → All (Within MAX_COORDINATE) heights
+pub are_heights : (tool : Tool) (part : List Tri) (y x0 x1 floor : ℤ) (heights : List ℤ) → IsRow y x0 x1 → AreDropHeights tool part floor (row_lattice y x0 x1) heights → All (IsHeightFrom tool floor) heights
     → AreHeights heights
-are_heights tool part y x0 x1 floor heights row are each = record { each = each; few = heights_few tool part y x0 x1 floor heights row are }
+are_heights tool part y x0 x1 floor heights row are each = record { each = All-weaker (IsHeightFrom tool floor) IsToolHeight (λ z h. h.in_range) heights each; few = heights_few tool part y x0 x1 floor heights row are }
 
 pub some_heights : (tool : Tool) (part : List Tri) (y x0 x1 floor : ℤ) (heights : List ℤ) → AreDropHeights tool part floor (row_lattice y x0 x1) heights → 0 < length heights
 some_heights tool part y x0 x1 floor heights are = let e = heights_count tool part y x0 x1 floor heights are in omega arith

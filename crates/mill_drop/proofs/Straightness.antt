@@ -8,18 +8,17 @@ use Rattle.std.proofs.lemmas.List.FromFn.{length-range_with_len, get_or-range_wi
 use Rattle.std.proofs.lemmas.Int.{ints, to_z-of_z, fits_signed_from_abs}
 use lib.IntN.{ℤ, pos, ◌+ℤ◌}
 use lib.Signed.{le_z}
-use Rattle.mill_base.specs.Numbers.{Within}
-use Rattle.mill_base.specs.declared.limits.TheConstants.{MAX_COORDINATE}
-use Rattle.mill_base.proofs.Ranges.{coordinate}
+use Rattle.mill_drop.specs.Drops.{IsToolHeight}
 use Rattle.mill_drop.specs.Paths.{height_at, scaled, line_at, is_kept_at, is_straight, IsTolerance}
 use Rattle.mill_drop.specs.inner.Rows.{AreHeights}
+use Rattle.mill_drop.proofs.Stored.{tool_small, tool_stored}
 
 -- a height is stored as it is
-pub height_within : (heights : List ℤ) (k : ℕ) → AreHeights heights → k < length heights → Within MAX_COORDINATE (height_at heights k)
-height_within heights k h inside = h.each k (pos 0) inside
+pub height_in : (heights : List ℤ) (k : ℕ) → AreHeights heights → k < length heights → IsToolHeight (height_at heights k)
+height_in heights k h inside = h.each k (pos 0) inside
 
 pub height_stored : (heights : List ℤ) (k : ℕ) → AreHeights heights → k < length heights → to_z w32 (of_z w32 (height_at heights k)) ≡ height_at heights k
-height_stored heights k h inside = coordinate (height_at heights k) (h.each k (pos 0) inside)
+height_stored heights k h inside = tool_stored (height_at heights k) (h.each k (pos 0) inside)
 
 pub tolerance_stored : (tol : ℤ) → IsTolerance tol → to_z w32 (of_z w32 tol) ≡ tol
 tolerance_stored tol h = to_z-of_z w32 tol (fits_signed_from_abs w32 tol small)
@@ -28,10 +27,10 @@ tolerance_stored tol h = to_z-of_z w32 tol (fits_signed_from_abs w32 tol small)
     small = let a = h.some in let b = h.within in omega (arith, ints)
 
 -- so is a height with the tolerance
-pub raised_small : (z tol : ℤ) → Within MAX_COORDINATE z → IsTolerance tol → nat_abs (z +ℤ tol) < 1048576
-raised_small z tol h t = let w = h.within in let a = t.some in let b = t.within in omega (arith, ints)
+pub raised_small : (z tol : ℤ) → IsToolHeight z → IsTolerance tol → nat_abs (z +ℤ tol) < 1048576
+raised_small z tol h t = let w = tool_small z h in let a = t.some in let b = t.within in omega (arith, ints)
 
-pub raised_fits : (z tol : ℤ) → Within MAX_COORDINATE z → IsTolerance tol → FitsSigned w32 (z +ℤ tol)
+pub raised_fits : (z tol : ℤ) → IsToolHeight z → IsTolerance tol → FitsSigned w32 (z +ℤ tol)
 raised_fits z tol h t = fits_signed_from_abs w32 (z +ℤ tol) (let w = raised_small z tol h t in omega arith)
 
 -- a product is stored as it is, and so is a sum of two

@@ -4,7 +4,6 @@ use Rattle.std.specs.List.{AllZip}
 use Rattle.mill_base.specs.Numbers.{Within}
 use Rattle.mill_base.specs.declared.limits.TheConstants.{MAX_COORDINATE}
 use Rattle.mill_base.specs.Lattices.{IsMapLattice, nodes_of}
-use Rattle.mill_base.specs.Tools.{IsTool}
 use Rattle.mill_base.specs.declared.points.Tri.{Tri}
 use Rattle.mill_base.specs.declared.lattice.Lattice.{Lattice}
 use Rattle.mill_base.specs.declared.tool.Tool.{Tool}
@@ -19,8 +18,7 @@ abbrev pub AreDropHeights : Tool → List Tri → ℤ → Lattice → List ℤ �
 AreDropHeights tool part floor lattice heights = AllZip (IsHeightAt tool part floor) (nodes_of lattice) heights
 
 -- what a drop height at the node of this number needs
-pub record IsNodeTask (part : List Tri) (tool : Tool) (lattice : Lattice) (floor : ℤ) (number : ℕ) : Type 0 where
-  pub tool_ok : IsTool tool
+pub record IsNodeTask (lattice : Lattice) (floor : ℤ) (number : ℕ) : Type 0 where
   pub lattice_ok : IsMapLattice lattice
   pub floor_ok : Within MAX_COORDINATE floor
   pub number_ok : number < length (nodes_of lattice)

@@ -1,5 +1,5 @@
 -- What private functions and proofs cite alone: no clause of a public call leads here.
-pub mod Cutters
 pub mod Near
 pub mod Rows
+pub mod Solids
 pub mod Spindles

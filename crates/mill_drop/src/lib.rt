@@ -10,8 +10,8 @@
 #![tactic(auto)]
 
 mod drop;
-mod holder;
 mod laws;
+mod lift;
 mod map;
 mod near;
 mod once;

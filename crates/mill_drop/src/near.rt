@@ -2,9 +2,9 @@ ghost use Rattle.std.specs.Prelude.{◌≡◌};
 ghost use Rattle.mill_base.specs.Numbers.{Within};
 ghost use Rattle.mill_base.specs.declared.limits.TheConstants.{MAX_COORDINATE};
 ghost use Rattle.mill_base.specs.Sizes.{IsCutter};
-ghost use Rattle.mill_drop.specs.inner.Cutters.{IsRaised};
+ghost use Rattle.mill_drop.specs.inner.Solids.{IsRaised};
 ghost use Rattle.mill_drop.specs.inner.Near.{AreFree, point_box, square_about};
-ghost use Rattle.mill_drop.specs.inner.Spindles.{IsSpindle};
+ghost use Rattle.mill_drop.specs.inner.Spindles.{IsSpindle, IsTipHeight};
 
 use crate::search::Spindle;
 use mill_base::{Box2, Cutter};
@@ -42,10 +42,10 @@ fn only(x: i32, y: i32) -> Box2
 /// the area. Those that aren't over the height so far are passed over, and so are whole cells of them.
 pub fn raised_near(part: &SortedPart, spindle: Spindle, area: Box2, from: i32) -> i32
     requires spindle_ok { IsSpindle spindle }
-    requires from_ok { Within MAX_COORDINATE from }
+    requires from_ok { IsTipHeight from }
     ensures raised { IsRaised spindle.cutter part.now spindle.x spindle.y from result }
     ensures free { AreFree spindle.cutter part.now area spindle.x spindle.y result }
-    ensures bound { Within MAX_COORDINATE result }
+    ensures bound { IsTipHeight result }
 {
     let tris = part.part().tris();
     let mut height = from;
@@ -63,9 +63,9 @@ pub fn raised_near(part: &SortedPart, spindle: Spindle, area: Box2, from: i32) -
 /// the highest part point under it is often near there.
 pub fn start_height(part: &SortedPart, spindle: Spindle, from: i32) -> i32
     requires spindle_ok { IsSpindle spindle }
-    requires from_ok { Within MAX_COORDINATE from }
+    requires from_ok { IsTipHeight from }
     ensures raised { IsRaised spindle.cutter part.now spindle.x spindle.y from result }
-    ensures bound { Within MAX_COORDINATE result }
+    ensures bound { IsTipHeight result }
 {
     let area = only(spindle.x, spindle.y);
     let height = raised_near(part, spindle, area, from);
@@ -79,9 +79,9 @@ pub fn start_height(part: &SortedPart, spindle: Spindle, from: i32) -> i32
 /// The least height, from `from` on, at which the triangles at the edge's ends along x are free.
 fn edge_height(part: &SortedPart, spindle: Spindle, from: i32) -> i32
     requires spindle_ok { IsSpindle spindle }
-    requires from_ok { Within MAX_COORDINATE from }
+    requires from_ok { IsTipHeight from }
     ensures raised { IsRaised spindle.cutter part.now spindle.x spindle.y from result }
-    ensures bound { Within MAX_COORDINATE result }
+    ensures bound { IsTipHeight result }
 {
     let Spindle { cutter, x, y } = spindle;
     let Box2 { x0, x1, .. } = square_around(cutter, x, y);

@@ -1,59 +1,45 @@
+ghost use Rattle.std.specs.Prelude.{◌≡◌, ◌⊎◌};
 ghost use Rattle.mill_base.specs.Numbers.{Within};
 ghost use Rattle.mill_base.specs.declared.limits.TheConstants.{MAX_COORDINATE};
-ghost use Rattle.mill_base.specs.Sizes.{IsCutter};
-ghost use Rattle.mill_base.specs.Tools.{IsHolder, IsTool};
-ghost use Rattle.mill_drop.specs.Drops.{IsDropHeight};
-ghost use Rattle.mill_drop.specs.inner.Cutters.{IsCutterDrop, IsHolderDrop};
+ghost use Rattle.mill_drop.specs.Drops.{IsDropHeight, IsHeightFrom, IsToolHeight, IsUnderTop};
+ghost use Rattle.mill_drop.specs.inner.Solids.{IsSolidDrop};
 
-use crate::holder::{face_from, tip_from};
+use crate::lift::{tip_from, tool_from};
 use crate::search::Spindle;
-use mill_base::{Cutter, Holder, Tool};
+use mill_base::{Solid, Tool};
 use mill_part::Part;
 
 /// The drop height at (x, y) as `drop_at` gives it, by a look at every triangle of the part. For a
 /// single place that is less work than making cells.
 pub fn drop_once(part: &Part, tool: &Tool, x: i32, y: i32, floor: i32) -> i32
-    requires tool_ok { IsTool tool.now }
     requires x_ok { Within MAX_COORDINATE x }
     requires y_ok { Within MAX_COORDINATE y }
     requires floor_ok { Within MAX_COORDINATE floor }
     ensures drop { IsDropHeight tool.now part.now x y floor result }
-    ensures bound { Within MAX_COORDINATE result }
+    ensures bound { IsHeightFrom tool.now floor result }
 {
-    let height = cutter_once(part, tool.cutter, x, y, floor);
+    let height = solid_once(part, tool.cutter, x, y, floor);
     match tool.holder {
-        Some(holder) => holder_once(part, holder, x, y, height),
+        Some(holder) => solid_once(part, holder, x, y, height),
         None => height,
     }
 }
 
-/// The least height, from `from` on, at which the cutter doesn't gouge.
-fn cutter_once(part: &Part, cutter: Cutter, x: i32, y: i32, from: i32) -> i32
-    requires cutter_ok { IsCutter cutter }
+/// The least height of the tool's tip, from `from` on, at which this solid of it doesn't gouge.
+fn solid_once(part: &Part, solid: Solid, x: i32, y: i32, from: i32) -> i32
     requires x_ok { Within MAX_COORDINATE x }
     requires y_ok { Within MAX_COORDINATE y }
-    requires from_ok { Within MAX_COORDINATE from }
-    ensures drop { IsCutterDrop cutter part.now x y from result }
-    ensures bound { Within MAX_COORDINATE result }
+    requires from_ok { IsToolHeight from }
+    ensures drop { IsSolidDrop solid part.now x y from result }
+    ensures bound { IsToolHeight result }
+    ensures reached { (result ≡ from) ⊎ IsUnderTop solid result }
 {
+    let cutter = solid.cutter();
     let spindle = Spindle { cutter, x, y };
-    let mut height = from;
+    let start = tip_from(solid, from);
+    let mut tip = start;
     for tri in part.tris() {
-        height = spindle.raised(tri, height);
+        tip = spindle.raised(tri, tip);
     }
-    height
-}
-
-/// The least height of the cutter's tip, from `from` on, at which the holder doesn't gouge.
-fn holder_once(part: &Part, holder: Holder, x: i32, y: i32, from: i32) -> i32
-    requires holder_ok { IsHolder holder }
-    requires x_ok { Within MAX_COORDINATE x }
-    requires y_ok { Within MAX_COORDINATE y }
-    requires from_ok { Within MAX_COORDINATE from }
-    ensures drop { IsHolderDrop holder part.now x y from result }
-    ensures bound { Within MAX_COORDINATE result }
-{
-    let start = face_from(holder, from);
-    let face = cutter_once(part, holder.solid(), x, y, start);
-    tip_from(holder, face, from)
+    tool_from(solid, tip, from)
 }

@@ -1,7 +1,6 @@
 ghost use Rattle.std.specs.Prelude.{◌≡◌, ◌<◌, length, map, All, IfOk};
 ghost use Rattle.mill_base.specs.Numbers.{Within};
 ghost use Rattle.mill_base.specs.declared.limits.TheConstants.{MAX_COORDINATE};
-ghost use Rattle.mill_base.specs.Tools.{IsTool};
 ghost use Rattle.mill_drop.specs.Paths.{row_lattice, tip_over, IsPath, IsRow, IsTolerance, KeepsTolerance};
 ghost use Rattle.mill_drop.specs.inner.Rows.{AreHeights};
 
@@ -14,15 +13,16 @@ use std::alloc::Global;
 /// The greatest tolerance of a path, in units.
 pub const MAX_TOLERANCE: i32 = 10_000;
 
-/// The path of a tool along the row at `y` from `x0` to `x1`: the tips between which it goes straight,
-/// with x ascending. Each is at its drop height, the first at `x0` and the last at `x1`, and at each
-/// whole x the line through them has a height from the drop height to `tol` over it.
+/// The path of a tool along the row at `y` from `x0` to `x1`: the tips between which it goes
+/// straight, with x ascending. Each is at its drop height, the first at `x0` and the last at `x1`,
+/// and at each whole x the line through them has a height from the drop height to `tol` over it.
 ///
-/// From a tip the tool goes straight to another where the line between them keeps to that; else it goes
-/// to the tip in the middle first, of two the lower in x, and either half is as a whole row. Each place
-/// is dropped once.
+/// From a tip the tool goes straight to another where the line between them keeps to that; else it
+/// goes to the tip in the middle first, of two the lower in x, and either half is as a whole row.
+/// Each place is dropped once.
 ///
-/// `tol` is from 0 to `MAX_TOLERANCE`. Lengths are in units, of at most `MAX_COORDINATE` in magnitude.
+/// `tol` is from 0 to `MAX_TOLERANCE`. Lengths are in units, of at most `MAX_COORDINATE` in
+/// magnitude; the drop heights are in the range of those of `drop_at`.
 pub fn path_drop(
     alloc: Global,
     part: &SortedPart,
@@ -33,7 +33,6 @@ pub fn path_drop(
     floor: i32,
     tol: i32,
 ) -> Result<Vec<Pt3>, WantOfMemory>
-    requires tool_ok { IsTool tool.now }
     requires row_ok { IsRow y x0 x1 }
     requires floor_ok { Within MAX_COORDINATE floor }
     requires tol_ok { IsTolerance tol }

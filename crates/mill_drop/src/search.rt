@@ -1,10 +1,8 @@
 ghost use Rattle.std.specs.Prelude.{◌≡◌, ◌⊎◌, ◌+ℤ◌, ◌-ℤ◌, ◌≤ℤ◌, ◌<ℤ◌, pos, false, IsTrue};
-ghost use Rattle.mill_base.specs.Numbers.{Within};
-ghost use Rattle.mill_base.specs.declared.limits.TheConstants.{MAX_COORDINATE};
 ghost use Rattle.mill_base.specs.Points.{highest as highest_of};
 ghost use Rattle.mill_base.specs.Ranges.{TriInRange};
-ghost use Rattle.mill_drop.specs.inner.Cutters.{TouchesAt};
-ghost use Rattle.mill_drop.specs.inner.Spindles.{IsBracket, IsSpindle};
+ghost use Rattle.mill_drop.specs.inner.Solids.{TouchesAt};
+ghost use Rattle.mill_drop.specs.inner.Spindles.{IsBracket, IsSpindle, IsTipHeight};
 
 use mill_base::{Cutter, Pt3, Tri};
 use mill_sweep::holds_some;
@@ -22,7 +20,7 @@ impl Spindle {
     fn holds_some(self, tri: &Tri, z: i32) -> bool
         requires self_ok { IsSpindle self }
         requires tri_ok { TriInRange tri.now }
-        requires z_ok { Within MAX_COORDINATE z }
+        requires z_ok { IsTipHeight z }
         ensures yes { IsTrue result → TouchesAt self.cutter tri.now self.x self.y z }
         ensures no { result ≡ false → ¬ TouchesAt self.cutter tri.now self.x self.y z }
     {
@@ -65,9 +63,9 @@ impl Spindle {
     pub fn raised(self, tri: &Tri, from: i32) -> i32
         requires self_ok { IsSpindle self }
         requires tri_ok { TriInRange tri.now }
-        requires from_ok { Within MAX_COORDINATE from }
+        requires from_ok { IsTipHeight from }
         ensures kept { from ≤ℤ result }
-        ensures bound { Within MAX_COORDINATE result }
+        ensures bound { IsTipHeight result }
         ensures free { ¬ TouchesAt self.cutter tri.now self.x self.y result }
         ensures least { (result ≡ from) ⊎ TouchesAt self.cutter tri.now self.x self.y (result -ℤ pos 1) }
     {
@@ -87,8 +85,8 @@ impl Spindle {
 /// A flat cutter stands on a triangle's top wherever the highest corner is under it, so for a flat
 /// cutter one unit under the top is tried first.
 fn between(cutter: Cutter, low: i32, high: i32, top: i32) -> i32
-    requires low_ok { Within MAX_COORDINATE low }
-    requires high_ok { Within MAX_COORDINATE high }
+    requires low_ok { IsTipHeight low }
+    requires high_ok { IsTipHeight high }
     requires room { (low +ℤ pos 1) <ℤ high }
     ensures over { low <ℤ result }
     ensures under { result <ℤ high }

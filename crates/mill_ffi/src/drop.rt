@@ -1,7 +1,6 @@
 ghost use Rattle.std.specs.Prelude.{◌≡◌, ◌≢◌, pos, length, All, OnOk, IfErr, OnErr, IsSomeAnd};
 ghost use Rattle.mill_base.specs.declared.limits.TheConstants.{MAX_COORDINATE};
 ghost use Rattle.mill_base.specs.Numbers.{Within};
-ghost use Rattle.mill_base.specs.Tools.{IsTool};
 ghost use Rattle.mill_ffi.specs.Asked.{AreHeightsAt, AreSound, IsCause, IsHeightAt, IsToldFor};
 ghost use Rattle.mill_ffi.specs.inner.Testing.{IsCauseBeside};
 ghost use Rattle.mill_ffi_data.specs.Raw.{IsPlace, IsSoundTool, tool_of, tris_of};
@@ -63,7 +62,11 @@ fn drop_into(
         (IsCause triangles.now tool.now places.now floor (length heights.old)) }
     ensures kept { OnErr result (heights.new ≡ heights.old) }
 {
-    let cutting = tool_from(tool)?;
+    // A match, since rattle proves no `?` on a tool.
+    let cutting = match tool_from(tool) {
+        Ok(cutting) => cutting,
+        Err(fault) => return Err(fault),
+    };
     check_arguments(triangles, places, floor, heights.len())?;
     let part = part_from(alloc, triangles)?;
     let sorted = SortedPart::new(alloc, part)?;
@@ -96,7 +99,6 @@ fn check_arguments(
 
 /// Writes the drop height at each place.
 fn drop_all(part: &SortedPart, tool: &Tool, places: &[RawPlace], floor: i32, heights: &mut [i32])
-    requires tool_ok { IsTool tool.now }
     requires places_ok { All IsPlace places.now }
     requires floor_ok { Within MAX_COORDINATE floor }
     requires room_ok { length heights.old ≡ length places.now }
@@ -109,7 +111,6 @@ fn drop_all(part: &SortedPart, tool: &Tool, places: &[RawPlace], floor: i32, hei
 
 /// The drop height at a place.
 fn height_at(part: &SortedPart, tool: &Tool, place: RawPlace, floor: i32) -> i32
-    requires tool_ok { IsTool tool.now }
     requires place_ok { IsPlace place }
     requires floor_ok { Within MAX_COORDINATE floor }
     ensures { IsHeightAt tool.now part.now floor place result }

@@ -2,7 +2,6 @@ ghost use Rattle.std.specs.Prelude.{◌≡◌, ◌≢◌, [], ◌++◌, pos, len
 ghost use Rattle.mill_base.specs.declared.limits.TheConstants.{MAX_COORDINATE};
 ghost use Rattle.mill_base.specs.Lattices.{IsMapLattice};
 ghost use Rattle.mill_base.specs.Numbers.{Within};
-ghost use Rattle.mill_base.specs.Tools.{IsTool};
 ghost use Rattle.mill_ffi.specs.Asked.{IsToldFor};
 ghost use Rattle.mill_ffi.specs.inner.Testing.{IsCauseBesideLevel};
 ghost use Rattle.mill_ffi.specs.Levels.{AreChainsAt, AreOutlines, AreSoundLevel, IsLevelCause, counts_of, head_of};
@@ -83,7 +82,11 @@ fn chains_into(
         chains: 0,
         points: 0,
     };
-    let cutting = tool_from(tool)?;
+    // A match, since rattle proves no `?` on a tool.
+    let cutting = match tool_from(tool) {
+        Ok(cutting) => cutting,
+        Err(fault) => return Err(fault),
+    };
     let nodes = check_arguments(triangles, z, lattice)?;
     let part = part_from(alloc, triangles)?;
     let found = found_chains(alloc, part, &cutting, z, &nodes)?;
@@ -134,7 +137,6 @@ fn found_chains(
     z: i32,
     lattice: &Lattice,
 ) -> Result<Found, WantOfMemory>
-    requires tool_ok { IsTool tool.now }
     requires z_ok { Within MAX_COORDINATE z }
     requires lattice_ok { IsMapLattice lattice.now }
     ensures { IfOk result (λ found.
@@ -154,7 +156,6 @@ fn chains_at(
     z: i32,
     lattice: &Lattice,
 ) -> Result<Vec<Chain>, WantOfMemory>
-    requires tool_ok { IsTool tool.now }
     requires z_ok { Within MAX_COORDINATE z }
     requires lattice_ok { IsMapLattice lattice.now }
     ensures { IfOk result (λ chains.

@@ -2,7 +2,6 @@ ghost use Rattle.std.specs.Prelude.{◌≡◌, ◌≢◌, pos, length, OnOk, IfE
 ghost use Rattle.mill_base.specs.declared.limits.TheConstants.{MAX_COORDINATE};
 ghost use Rattle.mill_base.specs.Lattices.{IsMapLattice, node_count};
 ghost use Rattle.mill_base.specs.Numbers.{Within};
-ghost use Rattle.mill_base.specs.Tools.{IsTool};
 ghost use Rattle.mill_drop.specs.Maps.{AreDropHeights};
 ghost use Rattle.mill_ffi.specs.Asked.{IsToldFor};
 ghost use Rattle.mill_ffi.specs.inner.Testing.{AreSoundBeside, IsCauseBesideNodes};
@@ -79,7 +78,11 @@ fn drops_into(
     ensures untold { IfErr result (λ why. why ≢ fault.Room → told.new ≡ 0) }
 {
     *told = 0;
-    let cutting = tool_from(tool)?;
+    // A match, since rattle proves no `?` on a tool.
+    let cutting = match tool_from(tool) {
+        Ok(cutting) => cutting,
+        Err(fault) => return Err(fault),
+    };
     let nodes = check_arguments(triangles, lattice, floor)?;
     if heights.len() as u64 != nodes.nodes() {
         *told = nodes.nodes();
@@ -117,7 +120,6 @@ fn node_heights(
     lattice: &Lattice,
     floor: i32,
 ) -> Result<Vec<i32>, WantOfMemory>
-    requires tool_ok { IsTool tool.now }
     requires lattice_ok { IsMapLattice lattice.now }
     requires floor_ok { Within MAX_COORDINATE floor }
     ensures heights { IfOk result

@@ -1,5 +1,4 @@
 ghost use Rattle.std.specs.Prelude.{◌≡◌, ◌≢◌, ◌<◌, ◌++◌, pos, false, length, map, All, IsTrue, IfOk, OnOk, IfErr, OnErr, IsSomeAnd};
-ghost use Rattle.mill_base.specs.Tools.{IsTool};
 ghost use Rattle.mill_ffi.specs.Asked.{IsToldFor};
 ghost use Rattle.mill_ffi.specs.Fibers.{AreRunsAt, AreSoundFibers, IsAxis, IsFiberCause, IsLine, IsSoundFiber, IsStretch, fiber_of, run_of};
 ghost use Rattle.mill_ffi.specs.inner.Testing.{IsCauseBesideFibers};
@@ -77,7 +76,11 @@ fn runs_into(
     ensures untold { IfErr result (λ why. why ≢ fault.Room → told.new ≡ 0) }
 {
     *told = 0;
-    let pushed = tool_from(tool)?;
+    // A match, since rattle proves no `?` on a tool.
+    let pushed = match tool_from(tool) {
+        Ok(pushed) => pushed,
+        Err(fault) => return Err(fault),
+    };
     check_arguments(triangles, fibers, counts.len())?;
     let part = part_from(alloc, triangles)?;
     let found = found_runs(alloc, part, &pushed, fibers)?;
@@ -169,7 +172,6 @@ fn found_runs(
     tool: &Tool,
     fibers: &[RawFiber],
 ) -> Result<Found, WantOfMemory>
-    requires tool_ok { IsTool tool.now }
     requires fibers_ok { All IsSoundFiber fibers.now }
     ensures runs { IfOk result (λ found.
         AreRunsAt tool.now part fibers.now found.counts.items found.runs.items) }
@@ -194,7 +196,6 @@ fn fiber_runs<L: Ledger>(
     raw: &RawFiber,
     blank: Blank,
 ) -> Result<Vec<Run>, WantOfMemory>
-    requires tool_ok { IsTool tool.now }
     requires fiber_ok { IsSoundFiber raw.now }
     requires name { blank.name ≡ L.name }
     requires parts { blank.parts ≡ L.parts }

@@ -1,18 +1,17 @@
 -- What a caller's numbers stand for.
-use Rattle.std.specs.Prelude.{ℕ, pos, if◌then◌else◌, List, map, Option, Some, None, option_map, IfSome, IsSomeAnd}
+use Rattle.std.specs.Prelude.{ℕ, ℤ, pos, ◌≤ℤ◌, ◌&&◌, if◌then◌else◌, List, map, Option, Some, None, option_map, IfSome, IsSomeAnd}
 use Rattle.std.specs.Ordering.{int_eq}
 use Rattle.mill_base.specs.Lattices.{node_count}
 use Rattle.mill_base.specs.Numbers.{Within}
 use Rattle.mill_base.specs.Ranges.{TriInRange}
 use Rattle.mill_base.specs.Sizes.{IsCutter}
-use Rattle.mill_base.specs.Tools.{IsHolder}
+use Rattle.mill_base.specs.Solids.{Solid, at_tip}
 use Rattle.mill_base.specs.declared.lattice.Lattice.{Lattice}
 use Rattle.mill_base.specs.declared.limits.TheConstants.{MAX_COORDINATE}
 use Rattle.mill_base.specs.declared.points.Pt3.{Pt3}
 use Rattle.mill_base.specs.declared.points.Tri.{Tri}
 use Rattle.mill_base.specs.declared.cutter.Cutter.{Cutter}
 use Rattle.mill_base.specs.declared.cutter.Cutter.TheVariants.{Flat, Ball, Cone}
-use Rattle.mill_base.specs.declared.tool.Holder.{Holder}
 use Rattle.mill_base.specs.declared.tool.Tool.{Tool}
 use Rattle.mill_ffi_data.specs.declared.raw.RawLattice.{RawLattice}
 use Rattle.mill_ffi_data.specs.declared.raw.RawPlace.{RawPlace}
@@ -43,20 +42,30 @@ pub record IsPlace (raw : RawPlace) : Type 0 where
 abbrev pub cutter_of : RawTool → Option Cutter
 cutter_of raw = if int_eq raw.kind (pos 1) then Some (Flat raw.radius) else if int_eq raw.kind (pos 2) then Some (Ball raw.radius) else if int_eq raw.kind (pos 3) then Some (Cone raw.radius raw.rise raw.run) else None
 
--- the holder of these numbers; none where both are 0
-abbrev pub holder_of : RawTool → Option Holder
-holder_of raw = if int_eq raw.holder_radius (pos 0) then (if int_eq raw.stickout (pos 0) then None else Some (record { radius = raw.holder_radius; stickout = raw.stickout })) else Some (record { radius = raw.holder_radius; stickout = raw.stickout })
+-- the holder of these numbers, a flat whose lower face is the stickout over the cutter's tip; none where both are 0
+abbrev pub holder_of : RawTool → Option Solid
+holder_of raw = if int_eq raw.holder_radius (pos 0) && int_eq raw.stickout (pos 0) then None else Some (record { cutter = Flat raw.holder_radius; lift = raw.stickout })
 
 -- the tool of these numbers
 abbrev pub tool_of : RawTool → Option Tool
-tool_of raw = option_map (λ cutter. record { cutter = cutter; holder = holder_of raw }) (cutter_of raw)
+tool_of raw = option_map (λ cutter. record { cutter = at_tip cutter; holder = holder_of raw }) (cutter_of raw)
+
+-- a holder's lower face is in range over the cutter's tip
+pub record IsStickout (stickout : ℤ) : Type 0 where
+  pub some : (pos 1) ≤ℤ stickout
+  pub within : stickout ≤ℤ pos MAX_COORDINATE
+
+-- the holder is as wide as a cutter may be, and all of it is over the cutter's tip
+pub record IsOverTip (holder : Solid) : Type 0 where
+  pub cutter_ok : IsCutter holder.cutter
+  pub stickout_ok : IsStickout holder.lift
 
 -- the numbers are those of a cutter of a job, and of a holder or none
 abbrev pub SaysCutter : RawTool → Type 0
 SaysCutter raw = IsSomeAnd (cutter_of raw) IsCutter
 
 abbrev pub SaysHolder : RawTool → Type 0
-SaysHolder raw = IfSome (holder_of raw) IsHolder
+SaysHolder raw = IfSome (holder_of raw) IsOverTip
 
 -- the tool's numbers are those of a tool
 pub record IsSoundTool (tool : RawTool) : Type 0 where

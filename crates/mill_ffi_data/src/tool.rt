@@ -1,19 +1,17 @@
-ghost use Rattle.std.specs.Prelude.{◌≡◌, false, IsTrue, IfOk, OnOk, IfErr, IfSome, Some};
+ghost use Rattle.std.specs.Prelude.{◌≡◌, false, IsTrue, IfOk, OnOk, IfErr, Some};
 ghost use Rattle.mill_base.specs.declared.limits.TheConstants.{MAX_RADIUS};
 ghost use Rattle.mill_base.specs.Sizes.{HasRadius, IsCutter, IsSlope};
-ghost use Rattle.mill_base.specs.Tools.{IsHolder, IsTool};
-ghost use Rattle.mill_ffi_data.specs.Raw.{IsSoundTool, cutter_of, holder_of, tool_of};
+ghost use Rattle.mill_ffi_data.specs.Raw.{IsSoundTool, IsStickout, SaysHolder};
+ghost use Rattle.mill_ffi_data.specs.Raw.{cutter_of, holder_of, tool_of};
 ghost use Rattle.mill_ffi_data.specs.Tests.{IsToolCause};
-ghost use Rattle.mill_ffi_data.specs.inner.Testing.{IsStickout};
 
 use crate::fault::Fault;
 use crate::raw::RawTool;
-use mill_base::{Cutter, Holder, MAX_COORDINATE, MAX_RADIUS, Tool};
+use mill_base::{Cutter, MAX_COORDINATE, MAX_RADIUS, Solid, Tool};
 
 /// The tool of these numbers.
 pub fn tool_from(raw: &RawTool) -> Result<Tool, Fault>
     ensures tool { IfOk result (λ tool. tool_of raw.now ≡ Some tool) }
-    ensures in_range { IfOk result IsTool }
     ensures sound { OnOk result (IsSoundTool raw.now) }
     ensures cause { IfErr result (IsToolCause raw.now) }
 {
@@ -23,11 +21,10 @@ pub fn tool_from(raw: &RawTool) -> Result<Tool, Fault>
     if !is_cutter(cutter) {
         return Err(Fault::Cutter);
     }
-    let holder = holder_from(raw);
-    if !is_holder(holder) {
-        return Err(Fault::Holder);
-    }
-    Ok(Tool { cutter, holder })
+    Ok(Tool {
+        cutter: Solid::at_tip(cutter),
+        holder: holder_from(raw)?,
+    })
 }
 
 /// The cutter of these numbers, which may be out of range; none where the kind is none.
@@ -48,15 +45,20 @@ fn cutter_from(raw: &RawTool) -> Option<Cutter>
     }
 }
 
-/// The holder of these numbers, which may be out of range; none where both are 0.
-fn holder_from(raw: &RawTool) -> Option<Holder>
-    ensures { result ≡ holder_of raw.now }
+/// The holder of these numbers; none where both are 0.
+fn holder_from(raw: &RawTool) -> Result<Option<Solid>, Fault>
+    ensures holder { IfOk result (λ holder. holder ≡ holder_of raw.now) }
+    ensures sound { OnOk result (SaysHolder raw.now) }
+    ensures cause { IfErr result (IsToolCause raw.now) }
 {
     let (radius, stickout) = (raw.holder_radius, raw.stickout);
     if radius == 0 && stickout == 0 {
-        return None;
+        return Ok(None);
     }
-    Some(Holder { radius, stickout })
+    if !is_radius(radius) || !is_stickout(stickout) {
+        return Err(Fault::Holder);
+    }
+    Ok(Some(Solid::new(Cutter::Flat { radius }, stickout)))
 }
 
 /// Whether the numbers of a cutter are in their ranges.
@@ -89,17 +91,6 @@ fn is_slope(rise: i32, run: i32) -> bool
         return false;
     }
     rise <= 16 * run
-}
-
-/// Whether the numbers of a holder are in their ranges, or there is none.
-fn is_holder(holder: Option<Holder>) -> bool
-    ensures yes { IsTrue result → IfSome holder IsHolder }
-    ensures no { result ≡ false → ¬ IfSome holder IsHolder }
-{
-    match holder {
-        Some(holder) => is_radius(holder.radius) && is_stickout(holder.stickout),
-        None => true,
-    }
 }
 
 fn is_stickout(stickout: i32) -> bool

@@ -3,9 +3,9 @@ use Rattle.std.proofs.Common.{◌≡◌, ◌↔◌, ◌∙◌, Bool, true, false
 use Rattle.std.specs.Prelude.{IfSome}
 use Rattle.mill_base.specs.declared.points.Tri.{Tri}
 use Rattle.mill_base.specs.declared.motion.Move.{Move}
-use Rattle.mill_base.specs.declared.tool.Holder.{Holder}
+use Rattle.mill_base.specs.Solids.{Solid}
 use Rattle.mill_base.specs.declared.tool.Tool.{Tool}
-use Rattle.mill_gouge.specs.Gouges.{HolderPassesPart, PassesPart, ToolPassesPart}
+use Rattle.mill_gouge.specs.Gouges.{PassesPart, ToolPassesPart}
 
 -- a tool doesn't pass what its cutter doesn't
 pub cutter_stops : (tool : Tool) (m : Move) (part : List Tri) (b : Bool) → b ≡ false → ((b ≡ true) ↔ PassesPart tool.cutter m part) → (false ≡ true) ↔ ToolPassesPart tool m part
@@ -16,18 +16,18 @@ pub bare_passes : (tool : Tool) (m : Move) (part : List Tri) → tool.holder ≡
 bare_passes tool m part bare passes = (
   λ e. record {
     cutter = passes;
-    holder = subst (λ (o : Option Holder). IfSome o (λ holder. HolderPassesPart holder m part)) (sym bare) tt;
+    holder = subst (λ (o : Option Solid). IfSome o (λ holder. PassesPart holder m part)) (sym bare) tt;
   },
   λ both. refl,
 )
 
 -- one with a holder, whose cutter passes, passes what the holder does
-pub held_passes : (tool : Tool) (m : Move) (part : List Tri) (holder : Holder) (b : Bool) → tool.holder ≡ Some holder → PassesPart tool.cutter m part → ((b ≡ true) ↔ HolderPassesPart holder m part)
+pub held_passes : (tool : Tool) (m : Move) (part : List Tri) (holder : Solid) (b : Bool) → tool.holder ≡ Some holder → PassesPart tool.cutter m part → ((b ≡ true) ↔ PassesPart holder m part)
     → (b ≡ true) ↔ ToolPassesPart tool m part
 held_passes tool m part holder b held passes h = (
   λ yes. record {
     cutter = passes;
-    holder = subst (λ (o : Option Holder). IfSome o (λ v. HolderPassesPart v m part)) (sym held) (h.0 yes);
+    holder = subst (λ (o : Option Solid). IfSome o (λ v. PassesPart v m part)) (sym held) (h.0 yes);
   },
-  λ both. h.1 (subst (λ (o : Option Holder). IfSome o (λ v. HolderPassesPart v m part)) held both.holder),
+  λ both. h.1 (subst (λ (o : Option Solid). IfSome o (λ v. PassesPart v m part)) held both.holder),
 )

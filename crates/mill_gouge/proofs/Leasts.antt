@@ -3,21 +3,16 @@ use Rattle.std.specs.Prelude.{◌≡◌, ℕ, ◌+◌, ◌-◌, ◌<◌, ◌≤�
 use Rattle.std.proofs.Common.{inl, inr, refl, arith}
 use Rattle.std.proofs.lemmas.Bool.{cases_lt}
 use Rattle.std.proofs.lemmas.Int.{ints}
-use Rattle.std.proofs.lemmas.List.Elements.{Contains-get_or}
-use Rattle.mill_base.specs.Covers.{IsUnder}
-use Rattle.mill_base.specs.Numbers.{greater, lesser}
-use Rattle.mill_base.specs.Points.{tri_at}
-use Rattle.mill_base.specs.Tools.{IsHolder, solid_of}
-use Rattle.mill_base.specs.declared.cutter.Cutter.{Cutter}
+use Rattle.mill_base.specs.Solids.{Solid}
 use Rattle.mill_base.specs.declared.motion.Move.{Move}
 use Rattle.mill_base.specs.declared.points.Tri.{Tri}
-use Rattle.mill_base.specs.declared.tool.Holder.{Holder}
 use Rattle.mill_base.specs.declared.tool.Tool.{Tool}
-use Rattle.mill_sweep.proofs.Far.{top_passes}
-use Rattle.mill_sweep.specs.Holders.{lifted}
-use Rattle.mill_gouge.specs.Gouges.{HolderPassesPart, PassesPart, ToolPassesPart}
+use Rattle.mill_sweep.proofs.Solids.{low_end_lifted}
+use Rattle.mill_sweep.specs.Reach.{low_end_of}
+use Rattle.mill_gouge.specs.Gouges.{PassesPart, ToolPassesPart}
 use Rattle.mill_gouge.specs.Laws.{RaisingKeepsPass, OverPartPasses, PassesFromLift, PassingNeedsNoLift, OneLift}
 use Rattle.mill_gouge.specs.Lifts.{raised, IsLeastLift}
+use Rattle.mill_gouge.proofs.Looking.{over_clears}
 use Rattle.mill_gouge.proofs.Rising.{tool_rises}
 
 none_less : (n : ℕ) → (pos 0) ≤ℤ pos n
@@ -84,40 +79,15 @@ one_lift tool part m n k first second =
 
 -- ---- over the part
 
--- a cutter whose tip stays over the part's corners passes
-over_passes : (cutter : Cutter) (part : List Tri) (m : Move) (top : ℤ) → IsUnder part top → top ≤ℤ m.from.z → top ≤ℤ m.to.z → PassesPart cutter m part
-over_passes cutter part m top under from to i inside =
-    let corners = under (tri_at part i) (Contains-get_or part i _ inside) in
-    let high = most (tri_at part i).a.z (tri_at part i).b.z (tri_at part i).c.z top corners.0 corners.1 corners.2 in
-    top_passes cutter m (tri_at part i) (up _ _ _ high from) (up _ _ _ high to)
-  where
-    most : (a b c top : ℤ) → a ≤ℤ top → b ≤ℤ top → c ≤ℤ top → greater a (greater b c) ≤ℤ top
-    most a b c top p q r = grind (p, q, r, arith, ints)
-
-    up : (a b c : ℤ) → a ≤ℤ b → b ≤ℤ c → a ≤ℤ c
-    up a b c p q = omega (p, q, arith, ints)
-
--- and so does its holder, which is higher
-held_passes : (part : List Tri) (m : Move) (top : ℤ) → IsUnder part top → top ≤ℤ m.from.z → top ≤ℤ m.to.z → (o : Option Holder) → IfSome o IsHolder
-    → IfSome o (λ holder. HolderPassesPart holder m part)
-held_passes part m top under from to None ok = tt
-held_passes part m top under from to (Some holder) ok =
-    over_passes (solid_of holder) part (lifted holder m) top under (higher m.from.z from) (higher m.to.z to)
-  where
-    higher : (z : ℤ) → top ≤ℤ z → top ≤ℤ (z +ℤ holder.stickout)
-    higher z l = let least = ok.some in omega (l, least, arith, ints)
-
 pub over_part_passes : OverPartPasses
-over_part_passes tool part m top ok under over = record {
-  cutter = over_passes tool.cutter part m top under from to;
-  holder = held_passes part m top under from to tool.holder ok.holder_ok;
-}
+over_part_passes tool part m top lowest under over = record { cutter = passes tool.cutter lowest.cutter; holder = by tool.holder lowest.holder }
   where
-    least_of : (a b low : ℤ) → low ≤ℤ lesser a b → (low ≤ℤ a) × (low ≤ℤ b)
-    least_of a b low l = grind (l, arith, ints)
+    up : (a b s : ℤ) → a ≤ℤ b → (pos 0) ≤ℤ s → a ≤ℤ (b +ℤ s)
+    up a b s p q = omega (p, q, arith, ints)
 
-    from : top ≤ℤ m.from.z
-    from = (least_of m.from.z m.to.z top over).0
+    passes : (solid : Solid) → (pos 0) ≤ℤ solid.lift → PassesPart solid m part
+    passes solid least = over_clears solid m part top under (rw (low_end_lifted solid m) (up top (low_end_of m) solid.lift over least))
 
-    to : top ≤ℤ m.to.z
-    to = (least_of m.from.z m.to.z top over).1
+    by : (o : Option Solid) → IfSome o (λ holder. (pos 0) ≤ℤ holder.lift) → IfSome o (λ holder. PassesPart holder m part)
+    by None least = tt
+    by (Some holder) least = passes holder least

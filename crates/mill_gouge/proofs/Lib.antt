@@ -1,10 +1,9 @@
 mod ReadLemmas
 mod Looking
-mod Heights
 mod BothSolids
 mod RisingCerts
 mod Rising
-mod Leasts
+pub mod Leasts
 mod Clearing
 mod Rooms
 mod Bisecting

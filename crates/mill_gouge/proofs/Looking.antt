@@ -6,34 +6,30 @@ use Rattle.std.proofs.lemmas.Bool.Decides.{eqb_tells}
 use Rattle.std.proofs.lemmas.Int.{ints}
 use Rattle.std.proofs.lemmas.List.{length-map, get_or-map}
 use Rattle.std.proofs.lemmas.List.Elements.{Contains-get_or}
-use lib.IntN.{ℤ, ◌+ℤ◌}
+use lib.IntN.{ℤ}
 use lib.Signed.{◌<ℤ◌, ◌≤ℤ◌}
 use Rattle.mill_base.specs.Numbers.{greater, lesser}
 use Rattle.mill_base.specs.Points.{highest, tri_at}
 use Rattle.mill_base.specs.Covers.{IsUnder}
 use Rattle.mill_base.specs.Ranges.{MoveInRange, TriInRange, TrisInRange}
-use Rattle.mill_base.specs.Sizes.{IsCutter}
+use Rattle.mill_base.specs.Solids.{IsSolid, Solid, at_tip, lifted}
 use Rattle.mill_base.specs.declared.points.Tri.{Tri}
 use Rattle.mill_base.specs.declared.points.Box2.{Box2}
 use Rattle.mill_base.specs.declared.motion.Move.{Move}
 use Rattle.mill_base.specs.declared.cutter.Cutter.{Cutter}
-use Rattle.mill_base.specs.declared.tool.Holder.{Holder}
-use Rattle.mill_base.specs.Tools.{IsHolder, solid_of}
 use Rattle.mill_cells.specs.Boxes.{Meet, IsNear, box_of, origin_box}
 use Rattle.mill_cells.specs.Sorted.{Sorted, sorted_of, top_at, IsNearOver}
 use Rattle.mill_cells.proofs.Lists.{nothing_in_nil, here, there, cons_cases}
 use Rattle.mill_cells.proofs.PassedLemmas.{top_is}
 use Rattle.mill_sweep.specs.Halving.{FailsAt, Passes, Blocks}
 use Rattle.mill_sweep.specs.Leaves.{span_of}
-use Rattle.mill_sweep.specs.Holders.{lifted}
 use Rattle.mill_sweep.specs.Reach.{reach_box_of, low_end_of}
 use Rattle.mill_sweep.specs.Sweeps.{Swept}
 use Rattle.mill_sweep.specs.declared.leaf.Leaf.{Leaf}
 use Rattle.mill_gouge.specs.declared.gouge.Gouge.{Gouge}
 use Rattle.mill_gouge.specs.Gouges.{PassesPart, IsFirstGouge}
 use Rattle.mill_sweep.proofs.Far.{top_passes}
-use Rattle.mill_sweep.proofs.Holding.{holder_out_of_reach_passes}
-use Rattle.mill_sweep.proofs.OutOfReach.{out_of_reach_passes}
+use Rattle.mill_sweep.proofs.Solids.{out_of_reach_passes}
 use Rattle.mill_gouge.specs.inner.Reaches.{PassesOutside}
 use Rattle.mill_gouge.specs.inner.Firsts.{ComesBefore, IsEarlier, IsGouge}
 
@@ -41,12 +37,13 @@ use Rattle.mill_gouge.specs.inner.Firsts.{ComesBefore, IsEarlier, IsGouge}
 pub part_in_range : (part : List Tri) (t : ℕ) → TrisInRange part → t < length part → TriInRange (tri_at part t)
 part_in_range part t ok inside = ok (tri_at part t) (Contains-get_or part t _ inside)
 
--- a move that stays over the part's top clears the part
-pub over_clears : (cutter : Cutter) (m : Move) (part : List Tri) (top : ℤ) → IsUnder part top → top ≤ℤ low_end_of m → PassesPart cutter m part
-over_clears cutter m part top under over t inside =
+-- a solid that stays over the part's top passes the part
+pub over_clears : (solid : Solid) (m : Move) (part : List Tri) (top : ℤ) → IsUnder part top → top ≤ℤ low_end_of (lifted solid m) → PassesPart solid m part
+over_clears solid m part top under over t inside =
+    let way = lifted solid m in
     let h = under (tri_at part t) (Contains-get_or part t _ inside) in
-    let high = most (tri_at part t).a.z (tri_at part t).b.z (tri_at part t).c.z top (low_end_of m) h.0 h.1 h.2 over in
-    top_passes cutter m (tri_at part t) (up _ _ _ high (ends m.from.z m.to.z).0) (up _ _ _ high (ends m.from.z m.to.z).1)
+    let high = most (tri_at part t).a.z (tri_at part t).b.z (tri_at part t).c.z top (low_end_of way) h.0 h.1 h.2 over in
+    top_passes solid.cutter way (tri_at part t) (up _ _ _ high (ends way.from.z way.to.z).0) (up _ _ _ high (ends way.from.z way.to.z).1)
   where
     most : (a b c top low : ℤ) → a ≤ℤ top → b ≤ℤ top → c ≤ℤ top → top ≤ℤ low → greater a (greater b c) ≤ℤ low
     most a b c top low p q r s = grind (p, q, r, s, arith, ints)
@@ -136,20 +133,13 @@ reach_each sorted items left area stored_low low same low_is each =
     subst (λ (l : List ℕ). (i : ℕ) → Contains l i ↔ IsNearOver sorted area low i) (sym same)
     (subst (λ (z : ℤ). (i : ℕ) → Contains items i ↔ IsNearOver sorted area z i) low_is each)
 
--- a cutter's move passes what lies outside its reach, and a holder outside its own
-pub outside_move : (s : Swept) (cutter : Cutter) (m : Move) (area : Box2) (low : ℤ) → s ≡ record { cutter = cutter; move = m } → area ≡ reach_box_of cutter m → low ≡ low_end_of m
-    → IsCutter cutter → MoveInRange m → PassesOutside s.cutter s.move area low
-outside_move s cutter m area low same area_is low_is ok ranged =
+-- a solid passes what lies outside its reach
+pub outside_move : (s : Swept) (solid : Solid) (m : Move) (area : Box2) (low : ℤ) → s ≡ record { cutter = solid.cutter; move = lifted solid m } → area ≡ reach_box_of solid.cutter m
+    → low ≡ low_end_of (lifted solid m) → IsSolid solid → MoveInRange m → PassesOutside s.cutter s.move area low
+outside_move s solid m area low same area_is low_is ok ranged =
     subst (λ (v : Swept). PassesOutside v.cutter v.move area low) (sym same)
-    (subst (λ (b : Box2). PassesOutside cutter m b low) (sym area_is)
-    (subst (λ (z : ℤ). PassesOutside cutter m (reach_box_of cutter m) z) (sym low_is) (λ tri inside out. out_of_reach_passes cutter m tri ok ranged inside out)))
-
-pub outside_holder : (s : Swept) (holder : Holder) (m : Move) (area : Box2) (low : ℤ) → s ≡ record { cutter = solid_of holder; move = lifted holder m } → area ≡ reach_box_of (solid_of holder) m
-    → low ≡ low_end_of m +ℤ holder.stickout → IsHolder holder → MoveInRange m → PassesOutside s.cutter s.move area low
-outside_holder s holder m area low same area_is low_is ok ranged =
-    subst (λ (v : Swept). PassesOutside v.cutter v.move area low) (sym same)
-    (subst (λ (b : Box2). PassesOutside (solid_of holder) (lifted holder m) b low) (sym area_is)
-    (subst (λ (z : ℤ). PassesOutside (solid_of holder) (lifted holder m) (reach_box_of (solid_of holder) m) z) (sym low_is) (λ tri inside out. holder_out_of_reach_passes holder m tri ok ranged inside out)))
+    (subst (λ (b : Box2). PassesOutside solid.cutter (lifted solid m) b low) (sym area_is)
+    (subst (λ (z : ℤ). PassesOutside solid.cutter (lifted solid m) (reach_box_of solid.cutter m) z) (sym low_is) (λ tri inside out. out_of_reach_passes solid m tri ok ranged inside out)))
 
 -- each triangle that comes is one of the part's
 pub next_within : (cutter : Cutter) (m : Move) (part : List Tri) (left later : List ℕ) (i : ℕ) (first : Option Gouge) → left ≡ i ∷ later → IsLooking cutter m part left first → i < length part
@@ -159,13 +149,17 @@ next_within cutter m part left later i first next h = h.within i (subst (λ (l :
 pub tri_in_range : (tris part : List Tri) (i : ℕ) (d : Tri) → tris ≡ part → i < length tris → TrisInRange part → TriInRange (get_or tris i d)
 tri_in_range tris part i d e h ok = ok _ (subst (λ (l : List Tri). Contains l (get_or tris i d)) e (Contains-get_or tris i d h))
 
--- what a sweep clears, its cutter clears on its move, and what it finds first, that does
-pub clears_swept : (b : Bool) (s t : Swept) (part : List Tri) → s ≡ t → ((b ≡ true) ↔ PassesPart s.cutter s.move part) → (b ≡ true) ↔ PassesPart t.cutter t.move part
-clears_swept b s t part same h = subst (λ (v : Swept). (b ≡ true) ↔ PassesPart v.cutter v.move part) same h
+-- what a solid's sweep clears, the solid clears on the move, and what it finds first, that does
+module _ (s : Swept) (solid : Solid) (m : Move) (part : List Tri) (same : s ≡ record { cutter = solid.cutter; move = lifted solid m }) where
+  pub clears_swept : (b : Bool) → ((b ≡ true) ↔ PassesPart (at_tip s.cutter) s.move part) → (b ≡ true) ↔ PassesPart solid m part
+  clears_swept b h = subst (λ (v : Swept). (b ≡ true) ↔ PassesPart (at_tip v.cutter) v.move part) same h
 
-pub first_swept : (o : Option Gouge) (s t : Swept) (part : List Tri) → s ≡ t → MatchOption o (PassesPart s.cutter s.move part) (IsFirstGouge s.cutter s.move part)
-    → MatchOption o (PassesPart t.cutter t.move part) (IsFirstGouge t.cutter t.move part)
-first_swept o s t part same h = subst (λ (v : Swept). MatchOption o (PassesPart v.cutter v.move part) (IsFirstGouge v.cutter v.move part)) same h
+  pub first_swept : (o : Option Gouge) → MatchOption o (PassesPart (at_tip s.cutter) s.move part) (IsFirstGouge (at_tip s.cutter) s.move part) → MatchOption o (PassesPart solid m part) (IsFirstGouge solid m part)
+  first_swept o h = by o (subst (λ (v : Swept). MatchOption o (PassesPart (at_tip v.cutter) v.move part) (IsFirstGouge (at_tip v.cutter) v.move part)) same h)
+    where
+      by : (o : Option Gouge) → MatchOption o (PassesPart solid m part) (IsFirstGouge (at_tip solid.cutter) (lifted solid m) part) → MatchOption o (PassesPart solid m part) (IsFirstGouge solid m part)
+      by None passes = passes
+      by (Some gouge) h = record { tri = h.tri; first = h.first; fails = h.fails; blocked = h.blocked }
 
 -- one more triangle
 pub look_goes_on : (cutter : Cutter) (m : Move) (part : List Tri) (left later : List ℕ) (i : ℕ) (first next : Option Gouge) → left ≡ i ∷ later → IsLooking cutter m part left first
@@ -229,7 +223,7 @@ look_goes_on cutter m part left later i first next e h new = elim new [
 
 -- after the last one, what was found is first
 pub look_ends : (cutter : Cutter) (m : Move) (part : List Tri) (left : List ℕ) (first : Option Gouge) → left ≡ [] → IsLooking cutter m part left first
-    → MatchOption first (PassesPart cutter m part) (IsFirstGouge cutter m part)
+    → MatchOption first (PassesPart (at_tip cutter) m part) (IsFirstGouge (at_tip cutter) m part)
 look_ends cutter m part left first e h = by first h
   where
     chain : (a b c : ℕ) → a < b → b < c → a < c
@@ -238,7 +232,7 @@ look_ends cutter m part left first e h = by first h
     none_left : (t : ℕ) → Contains left t → ⊥
     none_left t c = nothing_in_nil t (subst (λ (l : List ℕ). Contains l t) e c)
 
-    by : (first : Option Gouge) → IsLooking cutter m part left first → MatchOption first (PassesPart cutter m part) (IsFirstGouge cutter m part)
+    by : (first : Option Gouge) → IsLooking cutter m part left first → MatchOption first (PassesPart (at_tip cutter) m part) (IsFirstGouge (at_tip cutter) m part)
     by None h = λ t inside. elim (h.others t inside tt) [
       | inl passes ↦ passes
       | inr c ↦ absurd (none_left t c)

@@ -4,19 +4,19 @@ use Rattle.std.proofs.Common.{inl, inr, refl, ap, subst, sym, arith}
 use Rattle.std.proofs.lemmas.Int.{ints}
 use Rattle.std.proofs.lemmas.Nat.{pow_pos}
 use Rattle.mill_base.proofs.Divisions.{floor_div_low, floor_div_high}
+use Rattle.mill_base.proofs.SolidLemmas.{higher_once}
 use Rattle.mill_base.specs.Numbers.{floor_div, least_from, lesser}
 use Rattle.mill_base.specs.Points.{highest, minus, times, point_at}
 use Rattle.mill_base.specs.Sizes.{outer, shift}
-use Rattle.mill_base.specs.Tools.{solid_of}
+use Rattle.mill_base.specs.Solids.{Solid, higher}
 use Rattle.mill_base.specs.declared.cutter.Cutter.{Cutter}
 use Rattle.mill_base.specs.declared.motion.Move.{Move}
 use Rattle.mill_base.specs.declared.points.Tri.{Tri}
-use Rattle.mill_base.specs.declared.tool.Holder.{Holder}
 use Rattle.mill_base.specs.declared.tool.Tool.{Tool}
 use Rattle.mill_sweep.proofs.Lower.{inside_rises}
 use Rattle.mill_sweep.specs.Halving.{Blocks, IsFree, LeafPasses, Passes}
 use Rattle.mill_sweep.specs.Leaves.{depth_of, end_of, length_x, length_y, lower_of}
-use Rattle.mill_gouge.specs.Gouges.{HolderPassesPart, PassesPart, ToolPassesPart}
+use Rattle.mill_gouge.specs.Gouges.{PassesPart, ToolPassesPart}
 use Rattle.mill_gouge.proofs.RisingCerts.{end_rises, quotient_rises, lower_tip}
 
 -- the move with its ends at these heights
@@ -91,26 +91,29 @@ module _ (m : Move) (f t g u h : ℤ) (least : (pos 0) ≤ℤ h) (from_is : g �
   leaf_rises cutter tri (suc more) d k (inl free) = inl (free_rises cutter tri d k free)
   leaf_rises cutter tri (suc more) d k (inr both) = inr (leaf_rises cutter tri more (d + 1) (2 * k) both.0, leaf_rises cutter tri more (d + 1) (2 * k + 1) both.1)
 
-  passes_rises : (cutter : Cutter) (tri : Tri) → Passes cutter (at_heights m f t) tri → Passes cutter (at_heights m g u) tri
+  pub passes_rises : (cutter : Cutter) (tri : Tri) → Passes cutter (at_heights m f t) tri → Passes cutter (at_heights m g u) tri
   passes_rises cutter tri passes =
       subst (λ (n : ℕ). LeafPasses cutter (at_heights m g u) tri n 0 0) (sym as_deep) (leaf_rises cutter tri (depth_of (at_heights m f t)) 0 0 passes)
 
-  pub part_rises : (cutter : Cutter) (part : List Tri) → PassesPart cutter (at_heights m f t) part → PassesPart cutter (at_heights m g u) part
-  part_rises cutter part passes i inside = passes_rises cutter _ (passes i inside)
-
--- the same of a tool, whose holder is higher by the stickout on both moves
+-- the same of a solid, which is higher by its lift on both moves, and of a tool
 module _ (m : Move) (f t g u h : ℤ) (least : (pos 0) ≤ℤ h) (from_is : g ≡ f +ℤ h) (to_is : u ≡ t +ℤ h) (part : List Tri) where
-  stays_over : (a b s : ℤ) → b ≡ a +ℤ h → (b +ℤ s) ≡ ((a +ℤ s) +ℤ h)
-  stays_over a b s e = omega (e, arith, ints)
+  stays_over : (a b s : ℤ) → b ≡ a +ℤ h → higher (pos 1) b s ≡ higher (pos 1) a s +ℤ h
+  stays_over a b s e = rw (higher_once b s, higher_once a s) (both_up a b s e)
+    where
+      both_up : (a b s : ℤ) → b ≡ a +ℤ h → (b +ℤ s) ≡ ((a +ℤ s) +ℤ h)
+      both_up a b s e = omega (e, arith, ints)
 
-  holder_rises : (o : Option Holder) → IfSome o (λ holder. HolderPassesPart holder (at_heights m f t) part) → IfSome o (λ holder. HolderPassesPart holder (at_heights m g u) part)
+  solid_rises : (solid : Solid) → PassesPart solid (at_heights m f t) part → PassesPart solid (at_heights m g u) part
+  solid_rises solid passes i inside =
+      let s = solid.lift in
+      passes_rises m (higher (pos 1) f s) (higher (pos 1) t s) (higher (pos 1) g s) (higher (pos 1) u s) h least (stays_over f g s from_is) (stays_over t u s to_is) solid.cutter _ (passes i inside)
+
+  holder_rises : (o : Option Solid) → IfSome o (λ holder. PassesPart holder (at_heights m f t) part) → IfSome o (λ holder. PassesPart holder (at_heights m g u) part)
   holder_rises None passes = tt
-  holder_rises (Some holder) passes =
-      let s = holder.stickout in
-      part_rises m (f +ℤ s) (t +ℤ s) (g +ℤ s) (u +ℤ s) h least (stays_over f g s from_is) (stays_over t u s to_is) (solid_of holder) part passes
+  holder_rises (Some holder) passes = solid_rises holder passes
 
   pub tool_rises : (tool : Tool) → ToolPassesPart tool (at_heights m f t) part → ToolPassesPart tool (at_heights m g u) part
   tool_rises tool passes = record {
-    cutter = part_rises m f t g u h least from_is to_is tool.cutter part passes.cutter;
+    cutter = solid_rises tool.cutter passes.cutter;
     holder = holder_rises tool.holder passes.holder;
   }

@@ -11,12 +11,11 @@ use Rattle.mill_base.specs.declared.motion.Move.{Move}
 use Rattle.mill_base.specs.declared.points.Pt3.{Pt3}
 use Rattle.mill_base.specs.declared.points.Tri.{Tri}
 use Rattle.mill_part.specs.Tops.{IsTop}
-use Rattle.mill_sweep.specs.Holders.{raised_by}
 use Rattle.mill_sweep.specs.Leaves.{length_z}
 use Rattle.mill_sweep.specs.Reach.{low_end_of}
 use Rattle.mill_sweep.specs.Widths.{longest}
 use Rattle.mill_gouge.specs.Laws.{HundredthsHaveRoom}
-use Rattle.mill_gouge.specs.Lifts.{HasRoom, raised}
+use Rattle.mill_gouge.specs.Lifts.{HasRoom, place_over, raised}
 
 up : (a b c : ℤ) → a ≤ℤ b → b ≤ℤ c → a ≤ℤ c
 up a b c p q = omega (p, q, arith, ints)
@@ -77,7 +76,7 @@ end_within : (f t top : ℤ) (n : ℕ) → nat_abs f ≤ MAX_COORDINATE → nat_
 end_within f t top n p q (inl none) room = (omega (p, none, arith, ints), omega (q, none, arith, ints))
 end_within f t top n p q (inr under) room = (grind (p, q, under, room, arith, ints), grind (p, q, under, room, arith, ints))
 
-place_within : (p : Pt3) (n : ℕ) → IsInRange p → nat_abs (p.z +ℤ pos n) ≤ MAX_COORDINATE → IsInRange (raised_by p (pos n))
+place_within : (p : Pt3) (n : ℕ) → IsInRange p → nat_abs (p.z +ℤ pos n) ≤ MAX_COORDINATE → IsInRange (place_over n p)
 place_within p n ok within = record { x_ok = ok.x_ok; y_ok = ok.y_ok; z_ok = record { within = within } }
 
 pub raised_within : (m : Move) (top : ℤ) (n : ℕ) → MoveInRange m → (n ≡ 0) ⊎ ((low_end_of m +ℤ pos n) ≤ℤ top) → top ≤ℤ (pos MAX_COORDINATE -ℤ pos (length_z m)) → MoveInRange (raised n m)

@@ -1,16 +1,17 @@
 -- What it does to raise a move.
-use Rattle.std.specs.Prelude.{◌≡◌, ◌↔◌, ℕ, ◌≤◌, ℤ, ◌≤ℤ◌, List}
+use Rattle.std.specs.Prelude.{◌≡◌, ◌↔◌, ℕ, ◌≤◌, ℤ, ◌≤ℤ◌, List, IfSome}
 use Rattle.mill_base.specs.Covers.{IsUnder}
 use Rattle.mill_base.specs.Motion.{IsMoment, tip_at}
 use Rattle.mill_base.specs.Ranges.{MoveInRange, MoveInUnitRange, TrisInUnitRange}
-use Rattle.mill_base.specs.Tools.{IsTool, ToolGouges}
+use Rattle.mill_base.specs.Solids.{IsSolid}
+use Rattle.mill_base.specs.Tools.{ToolGouges}
 use Rattle.mill_base.specs.declared.motion.Move.{Move}
 use Rattle.mill_base.specs.declared.points.Tri.{Tri}
 use Rattle.mill_base.specs.declared.tool.Tool.{Tool}
 use Rattle.mill_base.specs.declared.unit.Unit.TheVariants.{Hundredth}
 use Rattle.mill_sweep.specs.Reach.{low_end_of}
 use Rattle.mill_gouge.specs.Gouges.{ToolPassesPart}
-use Rattle.mill_gouge.specs.Lifts.{raised, HasRoom, IsLeastLift}
+use Rattle.mill_gouge.specs.Lifts.{raised, HasRoom, IsLeastLift, IsTipLowest}
 
 -- a tool that passes the part on a move passes it on the raised move
 abbrev pub RaisingKeepsPass : Type 0
@@ -18,7 +19,7 @@ RaisingKeepsPass = (tool : Tool) (part : List Tri) (m : Move) (n : ℕ) → Tool
 
 -- on a move that stays over each corner of the part, or at its height, a tool passes the part
 abbrev pub OverPartPasses : Type 0
-OverPartPasses = (tool : Tool) (part : List Tri) (m : Move) (top : ℤ) → IsTool tool → IsUnder part top → top ≤ℤ low_end_of m → ToolPassesPart tool m part
+OverPartPasses = (tool : Tool) (part : List Tri) (m : Move) (top : ℤ) → IsTipLowest tool → IsUnder part top → top ≤ℤ low_end_of m → ToolPassesPart tool m part
 
 -- raised by the least lift or by more, the tool passes the part, and by less it doesn't
 abbrev pub PassesFromLift : Type 0
@@ -30,8 +31,8 @@ PassingNeedsNoLift = (tool : Tool) (part : List Tri) (m : Move) → ToolPassesPa
 
 -- a move that is raised by the least lift or by more, where it is in range, has no part point strictly inside its cutter, or its holder, at any moment
 abbrev pub LiftedIsClear : Type 0
-LiftedIsClear = (tool : Tool) (part : List Tri) (m : Move) (n k : ℕ) (a d : ℤ) → IsTool tool → MoveInRange (raised k m) → IsLeastLift tool part m n → n ≤ k → IsMoment a d
-    → ¬ ToolGouges tool d (tip_at (raised k m) a d) part
+LiftedIsClear = (tool : Tool) (part : List Tri) (m : Move) (n k : ℕ) (a d : ℤ) → IsSolid tool.cutter → IfSome tool.holder IsSolid → MoveInRange (raised k m)
+    → IsLeastLift tool part m n → n ≤ k → IsMoment a d → ¬ ToolGouges tool d (tip_at (raised k m) a d) part
 
 -- a move has at most one least lift
 abbrev pub OneLift : Type 0

@@ -1,8 +1,7 @@
 ghost use Rattle.std.specs.Prelude.{◌≡◌, IsTrue, false};
 ghost use Rattle.mill_base.specs.Ranges.{MoveInRange};
-ghost use Rattle.mill_base.specs.Tools.{IsTool};
 ghost use Rattle.mill_gouge.specs.Gouges.{ToolPassesPart};
-ghost use Rattle.mill_gouge.specs.Lifts.{HasRoom, IsLeastLift, raised};
+ghost use Rattle.mill_gouge.specs.Lifts.{HasRoom, IsLeastLift, IsTipLowest, raised};
 
 use crate::clear::tool_clears;
 use crate::raise::raise;
@@ -12,13 +11,13 @@ use mill_part::SortedPart;
 
 /// The least whole number of units by which the move is to be raised, at both its ends, so that the
 /// tool passes each triangle of the part, with its cutter and with its holder; 0 where it passes
-/// already.
+/// already. No solid of the tool may have its tip under the tool's.
 ///
 /// The magnitudes of the move's coordinates are at most 524,287, and so are those of the move that
 /// is raised over the part, as `has_room` tells. The move is tested at most 21 times: as it stands,
 /// and for each halving of the stretch in which the lift lies.
 pub fn least_lift(tool: &Tool, part: &SortedPart, step: &Move) -> u32
-    requires tool_ok { IsTool tool.now }
+    requires lowest { IsTipLowest tool.now }
     requires move_ok { MoveInRange step.now }
     requires room_ok { HasRoom part.now step.now }
     ensures { IsLeastLift tool.now part.now step.now result }
@@ -31,7 +30,6 @@ pub fn least_lift(tool: &Tool, part: &SortedPart, step: &Move) -> u32
 
 /// The least lift of a move that doesn't pass as it stands, where this one is enough.
 fn least_up_to(tool: &Tool, part: &SortedPart, step: &Move, enough: u32) -> u32
-    requires tool_ok { IsTool tool.now }
     requires move_ok { MoveInRange step.now }
     requires raised_ok { MoveInRange (raised enough step.now) }
     requires fails { ¬ ToolPassesPart tool.now step.now part.now }
@@ -53,7 +51,6 @@ fn least_up_to(tool: &Tool, part: &SortedPart, step: &Move, enough: u32) -> u32
 
 /// Whether the tool passes the part on the move that is raised so far.
 fn clears_raised(tool: &Tool, part: &SortedPart, step: &Move, lift: u32) -> bool
-    requires tool_ok { IsTool tool.now }
     requires move_ok { MoveInRange step.now }
     requires raised_ok { MoveInRange (raised lift step.now) }
     ensures yes { IsTrue result → ToolPassesPart tool.now (raised lift step.now) part.now }

@@ -1,63 +1,42 @@
 ghost use Rattle.std.specs.Prelude.{◌≡◌, ◌↔◌, IsTrue, false};
 ghost use Rattle.mill_base.specs.Ranges.{MoveInRange, TriInRange};
-ghost use Rattle.mill_base.specs.Sizes.{IsCutter};
-ghost use Rattle.mill_base.specs.Tools.{IsHolder, IsTool};
+ghost use Rattle.mill_base.specs.Solids.{at_tip};
 ghost use Rattle.mill_sweep.specs.Halving.{Passes};
 ghost use Rattle.mill_gouge.specs.inner.Reaches.{PassesOutside};
-ghost use Rattle.mill_gouge.specs.Gouges.{HolderPassesPart, PassesPart, ToolPassesPart};
+ghost use Rattle.mill_gouge.specs.Gouges.{PassesPart, ToolPassesPart};
 
-use crate::reach::holder_reach;
-use crate::top::lid;
-use mill_base::{Box2, Cutter, Holder, Move, Tool, Tri};
+use crate::reach::reach_of;
+use mill_base::{Box2, Move, Solid, Tool, Tri};
 use mill_part::SortedPart;
-use mill_sweep::{Sweep, reach_box};
+use mill_sweep::Sweep;
 
-/// Whether the move passes each triangle of the part.
+/// Whether the solid passes each triangle of the part on the tool's move.
 ///
-/// It takes what `first_gouge` takes and tries the same triangles, but none after one that the move
-/// doesn't pass.
-pub fn clears(cutter: Cutter, part: &SortedPart, step: &Move) -> bool
-    requires cutter_ok { IsCutter cutter }
-    requires move_ok { MoveInRange step.now }
-    ensures { IsTrue result ↔ PassesPart cutter step.now part.now }
+/// It takes what `first_gouge` takes and tries the same triangles, but none after one that the
+/// solid doesn't pass.
+pub fn clears(solid: Solid, part: &SortedPart, step: &Move) -> bool
+    requires { MoveInRange step.now }
+    ensures { IsTrue result ↔ PassesPart solid step.now part.now }
 {
-    let (area, low) = reach_box(cutter, step);
-    if low >= lid(part.part()) {
-        return true;
+    match reach_of(solid, part.part(), step) {
+        Some(reach) => passes_each(&reach.sweep, part, reach.area, reach.low),
+        None => true,
     }
-    passes_each(&Sweep::new(cutter, step), part, area, low)
 }
 
-/// Whether the holder passes each triangle of the part on the cutter's move.
+/// Whether the tool passes each triangle of the part on its move: its cutter does, and so does its
+/// holder, if it has one.
 ///
-/// It takes what `first_holder_gouge` takes.
-pub fn holder_clears(holder: &Holder, part: &SortedPart, step: &Move) -> bool
-    requires holder_ok { IsHolder holder.now }
-    requires move_ok { MoveInRange step.now }
-    ensures { IsTrue result ↔ HolderPassesPart holder.now step.now part.now }
-{
-    let (area, low) = holder_reach(holder, step);
-    if low >= lid(part.part()) {
-        return true;
-    }
-    passes_each(&Sweep::of_holder(holder, step), part, area, low)
-}
-
-/// Whether the tool passes each triangle of the part on the cutter's move: its cutter does, and so
-/// does its holder, if it has one.
-///
-/// It takes what `clears` and `holder_clears` take. The holder isn't tried where the cutter doesn't
-/// pass.
+/// It takes what `clears` takes. The holder isn't tried where the cutter doesn't pass.
 pub fn tool_clears(tool: &Tool, part: &SortedPart, step: &Move) -> bool
-    requires tool_ok { IsTool tool.now }
-    requires move_ok { MoveInRange step.now }
+    requires { MoveInRange step.now }
     ensures { IsTrue result ↔ ToolPassesPart tool.now step.now part.now }
 {
     if !clears(tool.cutter, part, step) {
         return false;
     }
-    match &tool.holder {
-        Some(holder) => holder_clears(holder, part, step),
+    match tool.holder {
+        Some(holder) => clears(holder, part, step),
         None => true,
     }
 }
@@ -66,7 +45,7 @@ pub fn tool_clears(tool: &Tool, part: &SortedPart, step: &Move) -> bool
 /// the area or that don't come over the height.
 fn passes_each(sweep: &Sweep, part: &SortedPart, area: Box2, low: i32) -> bool
     requires { PassesOutside sweep.now.cutter sweep.now.move area low }
-    ensures { IsTrue result ↔ PassesPart sweep.now.cutter sweep.now.move part.now }
+    ensures { IsTrue result ↔ PassesPart (at_tip sweep.now.cutter) sweep.now.move part.now }
 {
     let tris = part.part().tris();
     for tri in part.cells().near_over(area, low) {

@@ -1,65 +1,42 @@
 ghost use Rattle.std.specs.Prelude.{◌≡◌, MatchOption};
 ghost use Rattle.mill_base.specs.Ranges.{MoveInRange, TriInRange};
-ghost use Rattle.mill_base.specs.Sizes.{IsCutter};
-ghost use Rattle.mill_base.specs.Tools.{IsHolder};
+ghost use Rattle.mill_base.specs.Solids.{at_tip};
 ghost use Rattle.mill_gouge.specs.inner.Firsts.{IsEarlier};
 ghost use Rattle.mill_gouge.specs.inner.Reaches.{PassesOutside};
-ghost use Rattle.mill_gouge.specs.Gouges.{HolderPassesPart, IsFirstGouge, IsFirstHolderGouge, PassesPart};
+ghost use Rattle.mill_gouge.specs.Gouges.{IsFirstGouge, PassesPart};
 
-use crate::reach::holder_reach;
-use crate::top::lid;
-use mill_base::{Box2, Cutter, Holder, Move, Tri};
+use crate::reach::reach_of;
+use mill_base::{Box2, Move, Solid, Tri};
 use mill_part::SortedPart;
-use mill_sweep::{Leaf, Sweep, reach_box};
+use mill_sweep::{Leaf, Sweep};
 
-/// A triangle that a move, or a holder on it, doesn't pass, and the leaf of the move that it
-/// blocks. Triangles are counted from 0.
+/// A triangle that a solid doesn't pass on a move, and the leaf of the move that it blocks.
+/// Triangles are counted from 0.
 #[derive(Clone, Copy)]
 pub struct Gouge {
     pub tri: u32,
     pub leaf: Leaf,
 }
 
-/// The first triangle that the move doesn't pass, with its failing leaf; none exactly where the
-/// move passes each triangle of the part.
+/// The first triangle that the solid doesn't pass on the tool's move, with the failing leaf; none
+/// exactly where it passes each triangle of the part.
 ///
-/// Only the triangles are tried whose boxes are near the move, and that come over the lower of its
-/// ends. No triangle is tried where the move stays over the part's highest corner.
+/// Only the triangles are tried whose boxes are near the move, and that come over the lower end of
+/// the solid's way. No triangle is tried where that way stays over the part's highest corner. A
+/// leaf of it is one of the move.
 ///
 /// Lengths are in units, and the ends of the move of at most 524,287 in magnitude.
-pub fn first_gouge(cutter: Cutter, part: &SortedPart, step: &Move) -> Option<Gouge>
-    requires cutter_ok { IsCutter cutter }
-    requires move_ok { MoveInRange step.now }
+pub fn first_gouge(solid: Solid, part: &SortedPart, step: &Move) -> Option<Gouge>
+    requires { MoveInRange step.now }
     ensures { MatchOption
         result
-        (PassesPart cutter step.now part.now)
-        (IsFirstGouge cutter step.now part.now) }
+        (PassesPart solid step.now part.now)
+        (IsFirstGouge solid step.now part.now) }
 {
-    let (area, low) = reach_box(cutter, step);
-    if low >= lid(part.part()) {
-        return None;
+    match reach_of(solid, part.part(), step) {
+        Some(reach) => first_of(&reach.sweep, part, reach.area, reach.low),
+        None => None,
     }
-    first_of(&Sweep::new(cutter, step), part, area, low)
-}
-
-/// The first triangle that the holder doesn't pass on the cutter's move, with the failing leaf;
-/// none exactly where it passes each triangle of the part.
-///
-/// A leaf of the holder's way is one of the cutter's. Lengths are in units, and the ends of the
-/// move, which is the cutter's, of at most 524,287 in magnitude.
-pub fn first_holder_gouge(holder: &Holder, part: &SortedPart, step: &Move) -> Option<Gouge>
-    requires holder_ok { IsHolder holder.now }
-    requires move_ok { MoveInRange step.now }
-    ensures { MatchOption
-        result
-        (HolderPassesPart holder.now step.now part.now)
-        (IsFirstHolderGouge holder.now step.now part.now) }
-{
-    let (area, low) = holder_reach(holder, step);
-    if low >= lid(part.part()) {
-        return None;
-    }
-    first_of(&Sweep::of_holder(holder, step), part, area, low)
 }
 
 /// The first triangle that the sweep doesn't pass, where it passes those whose box doesn't meet the
@@ -68,8 +45,8 @@ fn first_of(sweep: &Sweep, part: &SortedPart, area: Box2, low: i32) -> Option<Go
     requires { PassesOutside sweep.now.cutter sweep.now.move area low }
     ensures { MatchOption
         result
-        (PassesPart sweep.now.cutter sweep.now.move part.now)
-        (IsFirstGouge sweep.now.cutter sweep.now.move part.now) }
+        (PassesPart (at_tip sweep.now.cutter) sweep.now.move part.now)
+        (IsFirstGouge (at_tip sweep.now.cutter) sweep.now.move part.now) }
 {
     let tris = part.part().tris();
     let mut first = None;

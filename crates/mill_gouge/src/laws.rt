@@ -7,7 +7,8 @@ pub fn raising_keeps_pass()
     ensures { RaisingKeepsPass }
 {}
 
-/// A law: a tool passes the part on a move that stays over each corner of the part, or at its height.
+/// A law: a tool passes the part on a move that stays over each corner of the part, or at its
+/// height.
 ///
 /// It has no code, as [`raising_keeps_pass`].
 pub fn over_part_passes()
@@ -21,8 +22,8 @@ pub fn passes_from_lift()
     ensures { PassesFromLift }
 {}
 
-/// A law: a move that is raised by its least lift or by more has no part point strictly inside its cutter,
-/// or its holder, at any moment.
+/// A law: a move that is raised by its least lift or by more has no part point strictly inside its
+/// cutter, or its holder, at any moment.
 ///
 /// It has no code, as [`raising_keeps_pass`].
 pub fn lifted_is_clear()

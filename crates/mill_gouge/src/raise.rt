@@ -2,8 +2,7 @@ ghost use Rattle.std.specs.Prelude.{◌≡◌, pos, ◌+ℤ◌};
 ghost use Rattle.mill_base.specs.Numbers.{Within};
 ghost use Rattle.mill_base.specs.declared.limits.TheConstants.{MAX_COORDINATE};
 ghost use Rattle.mill_base.specs.Ranges.{MoveInRange};
-ghost use Rattle.mill_sweep.specs.Holders.{raised_by};
-ghost use Rattle.mill_gouge.specs.Lifts.{raised};
+ghost use Rattle.mill_gouge.specs.Lifts.{place_over, raised};
 
 use mill_base::{Move, Pt3};
 
@@ -24,7 +23,7 @@ pub fn raise(step: &Move, lift: u32) -> Move
 fn raise_place(place: Pt3, lift: u32) -> Pt3
     requires place_ok { Within MAX_COORDINATE place.z }
     requires raised_ok { Within MAX_COORDINATE (place.z +ℤ pos lift) }
-    ensures { result ≡ raised_by place (pos lift) }
+    ensures { result ≡ place_over lift place }
 {
     Pt3 {
         z: raise_height(place.z, lift),

@@ -1,19 +1,50 @@
-ghost use Rattle.std.specs.Prelude.{◌≡◌, ◌+ℤ◌};
+ghost use Rattle.std.specs.Prelude.{MatchOption};
 ghost use Rattle.mill_base.specs.Ranges.{MoveInRange};
-ghost use Rattle.mill_base.specs.Tools.{IsHolder, solid_of};
-ghost use Rattle.mill_sweep.specs.Reach.{low_end_of, reach_box_of};
+ghost use Rattle.mill_base.specs.Solids.{IsSolid};
+ghost use Rattle.mill_gouge.specs.Gouges.{PassesPart};
+ghost use Rattle.mill_gouge.specs.inner.Reaches.{IsReach};
 
-use mill_base::{Box2, Holder, Move};
-use mill_sweep::reach_box;
+use crate::top::lid;
+use mill_base::{Box2, Move, Solid};
+use mill_part::Part;
+use mill_sweep::{Sweep, reach_box};
 
-/// The box about a move that a triangle must meet to block the holder, and the height of the lower end
-/// of the holder's way, which it must come over.
-pub fn holder_reach(holder: &Holder, step: &Move) -> (Box2, i32)
-    requires holder_ok { IsHolder holder.now }
-    requires move_ok { MoveInRange step.now }
-    ensures area { result.0 ≡ reach_box_of (solid_of holder.now) step.now }
-    ensures low { result.1 ≡ low_end_of step.now +ℤ holder.now.stickout }
+/// A solid on a move, the box that a triangle must meet to block it, and the height that it must
+/// come over.
+#[derive(Drop)]
+pub struct Reach {
+    pub sweep: Sweep,
+    pub area: Box2,
+    pub low: i32,
+}
+
+/// The solid on the move and where a triangle may block it; none where it stays over the part's
+/// highest corner, or at its height, so that it passes the whole part.
+pub fn reach_of(solid: Solid, part: &Part, step: &Move) -> Option<Reach>
+    requires { MoveInRange step.now }
+    ensures { MatchOption
+        result
+        (PassesPart solid step.now part.now)
+        (IsReach solid step.now) }
 {
-    let (area, low) = reach_box(holder.solid(), step);
-    (area, low + holder.stickout)
+    is_in_range(solid);
+    let (area, low) = reach_box(solid, step);
+    if low >= lid(part) {
+        return None;
+    }
+    Some(Reach {
+        sweep: Sweep::new(solid, step),
+        area,
+        low,
+    })
+}
+
+/// A law: each solid is in range.
+///
+/// It does nothing: what it promises is its contract.
+fn is_in_range(solid: Solid)
+    ensures { IsSolid solid }
+{
+    let _cutter = solid.cutter();
+    let _lift = solid.lift();
 }

@@ -97,6 +97,7 @@ is_job unit cutter space measure paths extras c s m p e related = record {
   levels_ok = record { few = p.levels_ok.few; falling = p.levels_ok.falling; within = related.of_cut.levels };
   max_cut_ok = e.max_cut_ok;
   holder_ok = e.holder_ok;
+  stickout = e.stickout;
   wider = related.of_cut.wider;
   path_tol_ok = e.path_tol_ok;
 }

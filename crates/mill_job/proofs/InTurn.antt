@@ -2,14 +2,14 @@
 use Rattle.std.proofs.Common.{◌≡◌, ◌∙◌, ◌⊎◌, inl, inr, ap, sym, refl, ℕ, suc, ◌+◌, ◌<◌, ◌≤◌, drop, get_or, Bool, true, false, ◌&&◌, List, [], ◌∷◌, ◌++◌, length, map, Option, Some, None, is_some, arith}
 use Rattle.std.proofs.lemmas.Bool.{le-leb, lt-leb}
 use Rattle.std.proofs.lemmas.Bool.Decides.{nat_tests}
-use Rattle.std.proofs.lemmas.List.{append_assoc, append-nil, at_drop_more, at_drop_all, length-map}
+use Rattle.std.proofs.lemmas.List.{append_assoc, at_drop_more, length-map}
 use Rattle.std.specs.Prelude.{nat_le, ◌==◌}
 use Rattle.toml.specs.declared.value.Value.{Value}
 use Rattle.toml.specs.Data.{Members, as_table}
 use Rattle.toml.specs.View.{view, items_view}
 use Rattle.mill_job.specs.Tables.{first, kind_fault}
 use Rattle.mill_job.specs.declared.fault.JobFault.{JobFault}
-use Rattle.mill_job.specs.declared.fault.JobFault.TheVariants.{Range, WantOfMemory, WrongKind}
+use Rattle.mill_job.specs.declared.fault.JobFault.TheVariants.{Range, WantOfMemory}
 use Rattle.mill_job.specs.declared.fields.JobFields.{JobFields}
 use Rattle.mill_job.specs.declared.key.Key.TheVariants.{Steps}
 use Rattle.mill_job.specs.Lists.{all_of, each_fault, is_count, tables, with_rest}

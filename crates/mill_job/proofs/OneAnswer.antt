@@ -1,9 +1,8 @@
 -- A text means one thing: a text that is a job has no fault, and the other way round.
-use Rattle.std.proofs.Common.{◌≡◌, ◌∙◌, ◌≢◌, ℕ, List, Result, Ok, Err, inl, inr, refl, sym}
-use Rattle.mill_job.specs.Documents.{IsJobOf, GivesJob}
+use Rattle.std.proofs.Common.{◌≡◌, ◌∙◌, ℕ, List, Result, inl, inr, sym}
+use Rattle.mill_job.specs.Documents.{IsJobOf}
 use Rattle.mill_job.specs.declared.fields.JobFields.{JobFields}
 use Rattle.mill_job.specs.declared.fault.JobFault.{JobFault}
-use Rattle.mill_job.specs.declared.fault.JobFault.TheVariants.{Syntax, Unknown, Missing, WrongKind, Range, Relation, WantOfMemory}
 
 -- the two cases are told apart by whether the text is UTF-8, and each has one answer
 pub one_answer : (text : List ℕ) (a b : Result JobFields JobFault) → IsJobOf text a → IsJobOf text b → a ≡ b

@@ -3,7 +3,7 @@ use Rattle.std.specs.Prelude.{◌*◌, ◌≤◌, List, length, All, AllPairs, �
 use Rattle.mill_base.specs.Numbers.{Within}
 use Rattle.mill_base.specs.declared.limits.TheConstants.{MAX_COLUMNS}
 use Rattle.mill_base.specs.Sizes.{IsCutter, radius_of}
-use Rattle.mill_base.specs.Tools.{IsHolder}
+use Rattle.mill_base.specs.Solids.{IsSolid, at_tip}
 use Rattle.mill_base.specs.Units.{greatest_of}
 use Rattle.mill_base.specs.declared.cutter.Cutter.{Cutter}
 use Rattle.mill_base.specs.declared.tool.Tool.{Tool}
@@ -61,16 +61,17 @@ pub record IsJob (job : JobFields) : Type 0 where
   pub layers : HasFewLayers job
   pub levels_ok : AreLevels job.floor job.top job.levels
   pub max_cut_ok : IsFrom (pos 0) (pos (greatest_of job.unit)) job.max_cut
-  pub holder_ok : IfSome job.holder IsHolder
-  pub wider : IfSome job.holder (λ holder. radius_of job.cutter <ℤ holder.radius)
+  pub holder_ok : IfSome job.holder IsSolid
+  pub stickout : IfSome job.holder (λ holder. (pos 1) ≤ℤ holder.lift)
+  pub wider : IfSome job.holder (λ holder. radius_of job.cutter <ℤ radius_of holder.cutter)
   pub path_tol_ok : IfSome job.path_tol (IsFrom (pos 0) MAX_DISTANCE)
 
 -- the job's relations hold with this cutter in the place of its own
 pub record FitsJob (job : JobFields) (cutter : Cutter) : Type 0 where
   pub cutter_ok : IsCutter cutter
   pub narrow : job.band ≤ℤ radius_of cutter
-  pub wider : IfSome job.holder (λ holder. radius_of cutter <ℤ holder.radius)
+  pub wider : IfSome job.holder (λ holder. radius_of cutter <ℤ radius_of holder.cutter)
 
--- a job's cutter, with its holder if it has one
+-- a job's cutter, with its tip at the tool's, and its holder if it has one
 abbrev pub tool_of : JobFields → Tool
-tool_of job = record { cutter = job.cutter; holder = job.holder }
+tool_of job = record { cutter = at_tip job.cutter; holder = job.holder }

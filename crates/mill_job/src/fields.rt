@@ -1,5 +1,5 @@
 use crate::levels::Levels;
-use mill_base::{Box2, Cutter, Holder, Unit};
+use mill_base::{Box2, Cutter, Solid, Unit};
 use mill_decimal::Snap;
 
 /// A place in x and y, in units.
@@ -54,7 +54,7 @@ pub struct JobFields {
     /// under the column's top. From 0 to the unit's greatest coordinate; 0 means no limit.
     pub max_cut: i32,
     /// What holds the cutter, where that is watched; it is wider than the cutter.
-    pub holder: Option<Holder>,
+    pub holder: Option<Solid>,
     /// How much the straight ways between the places of a plan's finishing path may run over the drop
     /// heights under them, the lift aside, from 0 to 10,000; with `None` the path comes to each node of
     /// its lattice instead.

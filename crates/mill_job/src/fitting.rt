@@ -14,10 +14,11 @@ use mill_base::Cutter;
 /// Whether the job has a holder that isn't wider than a cutter.
 pub fn has_narrow_holder(job: &JobFields, cutter: &Cutter) -> bool
     ensures value { result ≡ is_narrow (radius_of cutter.now) job.now.holder }
-    ensures no { result ≡ false → IfSome job.now.holder (λ holder. radius_of cutter.now <ℤ holder.radius) }
+    ensures no { result ≡ false →
+        IfSome job.now.holder (λ holder. radius_of cutter.now <ℤ radius_of holder.cutter) }
 {
     match &job.holder {
-        Some(holder) => holder.radius <= cutter.radius(),
+        Some(holder) => holder.cutter().radius() <= cutter.radius(),
         None => false,
     }
 }

@@ -14,7 +14,7 @@ use crate::key::Key;
 use crate::levels::Levels;
 use crate::limits::MAX_DISTANCE;
 use crate::values::{coordinate, depth, number, number_if_there, number_or, snap};
-use mill_base::{Box2, Holder, Unit};
+use mill_base::{Box2, Solid, Unit};
 use mill_decimal::Snap;
 use toml::Table;
 
@@ -53,7 +53,7 @@ pub struct Paths {
 pub struct Extras {
     pub snap: Snap,
     pub max_cut: i32,
-    pub holder: Option<Holder>,
+    pub holder: Option<Solid>,
     pub path_tol: Option<i32>,
 }
 

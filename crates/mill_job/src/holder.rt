@@ -1,5 +1,5 @@
-ghost use Rattle.std.specs.Prelude.{◌≡◌, pos, IfOk, IfErr, IfSome, None, Some};
-ghost use Rattle.mill_base.specs.Tools.{IsHolder};
+ghost use Rattle.std.specs.Prelude.{◌≡◌, ◌≤ℤ◌, pos, IfOk, IfErr, IfSome, None, Some};
+ghost use Rattle.mill_base.specs.Solids.{IsSolid};
 ghost use Rattle.mill_base.specs.Units.{greatest_of};
 ghost use Rattle.toml.specs.View.{table_view};
 ghost use Rattle.mill_job.specs.Holders.{has as has_value, holder_fault, holder_of, names_holder as names_one};
@@ -9,7 +9,7 @@ ghost use Rattle.mill_job.specs.Tables.{number_at, number_fault};
 use crate::fault::JobFault;
 use crate::key::Key;
 use crate::values::{find, number};
-use mill_base::{Holder, MAX_RADIUS, Unit};
+use mill_base::{Cutter, MAX_RADIUS, Solid, Unit};
 use toml::Table;
 
 /// Whether the document has the key.
@@ -36,17 +36,19 @@ fn stickout(table: &Table, unit: Unit) -> Result<i32, JobFault>
     number(table, Key::Stickout, 1, unit.greatest())
 }
 
-/// The holder, if the document has one of its keys; then it must have both.
+/// The holder, a flat whose lower face is the stickout over the cutter's tip, if the document has
+/// one of its keys; then it must have both.
 #[tactic(auto, unfolding(crate::specs::Holders::holder_fault, crate::specs::Holders::holder_of))]
-pub fn holder(table: &Table, unit: Unit) -> Result<Option<Holder>, JobFault>
+pub fn holder(table: &Table, unit: Unit) -> Result<Option<Solid>, JobFault>
     ensures ok { IfOk result (λ holder. (holder_fault unit (table_view table.now) ≡ None) × (holder ≡ holder_of (table_view table.now))) }
     ensures err { IfErr result (λ fault. holder_fault unit (table_view table.now) ≡ Some fault) }
-    ensures in_range { IfOk result (λ holder. IfSome holder IsHolder) }
+    ensures in_range { IfOk result (λ holder. IfSome holder IsSolid) }
+    ensures over_tip { IfOk result (λ holder. IfSome holder (λ solid. pos 1 ≤ℤ solid.lift)) }
 {
     if !names_holder(table) {
         return Ok(None);
     }
     let radius = number(table, Key::HolderRadius, 1, MAX_RADIUS)?;
     let stickout = stickout(table, unit)?;
-    Ok(Some(Holder { radius, stickout }))
+    Ok(Some(Solid::new(Cutter::Flat { radius }, stickout)))
 }

@@ -3,7 +3,7 @@ ghost use Rattle.mill_job.specs.Jobs.{IsJob};
 
 use crate::fields::JobFields;
 use crate::positions::{count, position};
-use mill_base::{Pt3, Tool};
+use mill_base::{Pt3, Solid, Tool};
 
 /// A job: its numbers, each in its range, and the relations between them hold.
 #[derive(Clone, Copy, Debug, PartialEq, Eq)]
@@ -26,7 +26,7 @@ impl Job {
         ensures { result ≡ tool_of self.now.fields }
     {
         Tool {
-            cutter: self.fields.cutter,
+            cutter: Solid::at_tip(self.fields.cutter),
             holder: self.fields.holder,
         }
     }

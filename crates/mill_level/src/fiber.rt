@@ -5,7 +5,7 @@ ghost use Rattle.mill_base.specs.declared.limits.TheConstants.{MAX_COORDINATE};
 ghost use Rattle.mill_geom.specs.declared.touch.Axis.TheVariants.{X, Y};
 ghost use Rattle.mill_push.specs.Runs.{AreRuns, StandsIn};
 ghost use Rattle.mill_push.specs.Touches.{IsFiber};
-ghost use Rattle.mill_level.specs.inner.Cuts.{BlockedOn, IsCut};
+ghost use Rattle.mill_level.specs.inner.Cuts.{BlockedOn};
 ghost use Rattle.mill_level.specs.inner.Fibers.{AreAdded, AreAscending, ArePositions, EndBefore, HoldBlocked, IsPlaceBetween, IsSpot, Places, Tells};
 
 use crate::cut::Cut;
@@ -34,7 +34,7 @@ pub fn add_row(
     blocked: &mut Vec<bool>,
     places: &mut Vec<i32>,
 ) -> Result<(), WantOfMemory>
-    requires cut_ok { IsCut cut.now }
+    requires z_ok { Within MAX_COORDINATE cut.now.z }
     requires y_ok { Within MAX_COORDINATE y }
     requires xs_ok { ArePositions xs.now }
     ensures blocked { IfOk result (λ _. AreAdded (Tells (BlockedOn cut.now X y) xs.now) (length xs.now) blocked.old.items blocked.new.items) }
@@ -55,7 +55,7 @@ pub fn add_column(
     ends: &mut Ends,
     places: &mut Vec<i32>,
 ) -> Result<(), WantOfMemory>
-    requires cut_ok { IsCut cut.now }
+    requires z_ok { Within MAX_COORDINATE cut.now.z }
     requires x_ok { Within MAX_COORDINATE x }
     requires ys_ok { ArePositions ys.now }
     ensures { IfOk result (λ _. AreAdded (Places (BlockedOn cut.now Y x) ys.now) (length ys.now) places.old.items places.new.items) }
@@ -74,7 +74,7 @@ fn fiber_runs(
     positions: &[i32],
     ends: &mut Ends,
 ) -> Result<Vec<Run>, WantOfMemory>
-    requires cut_ok { IsCut cut.now }
+    requires z_ok { Within MAX_COORDINATE cut.now.z }
     requires at_ok { Within MAX_COORDINATE at }
     requires positions_ok { ArePositions positions.now }
     ensures ascending { IfOk result (λ runs. AreAscending runs.items) }
@@ -96,7 +96,6 @@ fn counted_runs<L: Ledger>(
     ends: &mut Ends,
     blank: Blank,
 ) -> Result<Vec<Run>, WantOfMemory>
-    requires cut_ok { IsCut cut.now }
     requires fiber_ok { IsFiber fiber }
     requires from_ok { Within MAX_COORDINATE from }
     requires to_ok { Within MAX_COORDINATE to }

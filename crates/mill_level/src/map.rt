@@ -1,7 +1,8 @@
 //! Finds which nodes of a lattice are blocked at a height, and where its crossings are.
 ghost use Rattle.std.specs.Prelude.{◌≡◌, IfOk};
+ghost use Rattle.mill_base.specs.Numbers.{Within};
+ghost use Rattle.mill_base.specs.declared.limits.TheConstants.{MAX_COORDINATE};
 ghost use Rattle.mill_base.specs.Lattices.{lattice_xs, lattice_ys, IsMapLattice};
-ghost use Rattle.mill_level.specs.inner.Cuts.{IsCut};
 ghost use Rattle.mill_level.specs.inner.Maps.{IsMapOf};
 
 use crate::cut::Cut;
@@ -15,7 +16,7 @@ use std::alloc::Global;
 /// runs of one fiber for each row and for each column. From one row to the next, and from one column to
 /// the next, it is kept where the ends of each triangle's stretch were.
 pub fn level_map(alloc: Global, cut: &Cut<'_>, lattice: &Lattice) -> Result<LevelMap, WantOfMemory>
-    requires cut_ok { IsCut cut.now }
+    requires z_ok { Within MAX_COORDINATE cut.now.z }
     requires lattice_ok { IsMapLattice lattice.now }
     ensures { IfOk result (IsMapOf cut.now.tool cut.now.part.now cut.now.z lattice.now) }
 {

@@ -2,7 +2,6 @@ ghost use Rattle.std.specs.Prelude.{◌↔◌, ◌≤◌, ℕ, IfOk, IsErrOf, ma
 ghost use Rattle.mill_base.specs.Numbers.{Within};
 ghost use Rattle.mill_base.specs.declared.limits.TheConstants.{MAX_COORDINATE, MAX_NODES};
 ghost use Rattle.mill_base.specs.Lattices.{node_count, IsLattice};
-ghost use Rattle.mill_base.specs.Tools.{IsTool};
 ghost use Rattle.mill_level.specs.declared.fault.LevelFault.TheVariants.{TooManyNodes};
 ghost use Rattle.mill_level.specs.Waterlines.{HasManyNodes, IsWaterline, seen};
 
@@ -33,7 +32,6 @@ pub fn waterline(
     z: i32,
     lattice: &Lattice,
 ) -> Result<Vec<Chain>, LevelFault>
-    requires tool_ok { IsTool tool.now }
     requires z_ok { Within MAX_COORDINATE z }
     requires lattice_ok { IsLattice lattice.now }
     ensures chains { IfOk result (λ chains. IsWaterline tool.now part.now z lattice.now (map_list seen chains.items)) }

@@ -1,6 +1,5 @@
 ghost use Rattle.mill_base.specs.Lattices.{IsLattice};
 ghost use Rattle.mill_base.specs.Numbers.{Within};
-ghost use Rattle.mill_base.specs.Tools.{IsTool};
 ghost use Rattle.mill_base.specs.declared.limits.TheConstants.{MAX_COORDINATE};
 
 use mill_base::{Lattice, Pt3, Tool};
@@ -60,7 +59,6 @@ fn told_round(
     z: i32,
     nodes: &Lattice,
 ) -> Result<String, Fail>
-    requires tool_ok { IsTool held.now }
     requires z_ok { Within MAX_COORDINATE z }
     requires nodes_ok { IsLattice nodes.now }
 {
@@ -70,21 +68,20 @@ fn told_round(
     }
 }
 
-/// What the waterline comes to that a row asks for: by which tool, at which height, over which lattice,
-/// and round which part.
-fn told_of(alloc: Global, text: &str) -> Result<String, Fail> {
-    let (held, others) = text.split_once(" at ").ok_or("a row without a height")?;
-    let (z, others) = others
-        .split_once(" over ")
-        .ok_or("a row without a lattice")?;
+/// What the waterline of a tool comes to by a text: at which height, over which lattice, and round which
+/// part.
+fn told_of(alloc: Global, held: &Tool, text: &str) -> Result<String, Fail> {
+    let (z, others) = text.split_once(" over ").ok_or("a row without a lattice")?;
     let (nodes, tris) = others.split_once(": ").ok_or("a row without a part")?;
-    let (held, z, nodes) = (tool(held)?, coordinate(z)?, lattice(nodes)?);
-    told_round(alloc, &part_of(alloc, tris)?, &held, z, &nodes)
+    let (z, nodes) = (coordinate(z)?, lattice(nodes)?);
+    told_round(alloc, &part_of(alloc, tris)?, held, z, &nodes)
 }
 
 fn look<R: Abort + AllocGlobal>(rt: &R, row: &str) -> Result<(), Fail> {
     let (text, wanted) = halves(row)?;
-    let found = told_of(rt.alloc(), text)?;
+    let (held, text) = text.split_once(" at ").ok_or("a row without a height")?;
+    let held = tool(held)?;
+    let found = told_of(rt.alloc(), &held, text)?;
     assert_eq!(rt; found.as_str(), wanted, "{row}");
     Ok(())
 }

@@ -1,10 +1,9 @@
 ghost use Rattle.std.specs.Prelude.{◌≡◌, ◌<◌, IfOk};
 ghost use Rattle.mill_base.specs.Numbers.{Within};
 ghost use Rattle.mill_base.specs.declared.limits.TheConstants.{MAX_COORDINATE};
-ghost use Rattle.mill_base.specs.Tools.{IsTool};
 ghost use Rattle.mill_push.specs.Touches.{IsFiber};
 
-use mill_base::{Steps, Tool};
+use mill_base::{Cutter, LOWEST_LIFT, Solid, Steps, Tool};
 use mill_part::SortedPart;
 use mill_push::{
     Axis, Ends, Fiber, Run, one_list_of_runs, one_stretch, push_after, runs_hold_blocked,
@@ -39,7 +38,6 @@ fn counted<L: Ledger>(
     ends: &mut Ends,
     blank: Blank,
 ) -> Result<Vec<Run>, Fail>
-    requires tool_ok { IsTool tool.now }
     requires fiber_ok { IsFiber fiber }
     requires from_ok { Within MAX_COORDINATE from }
     requires to_ok { Within MAX_COORDINATE to }
@@ -83,9 +81,7 @@ fn told_of(
     part: &SortedPart,
     ends: &mut Ends,
     text: &str,
-) -> Result<String, Fail>
-    requires { IsTool tool.now }
-{
+) -> Result<String, Fail> {
     let (fiber, window) = text.split_once(" from ").unwrap_or((text, "-2000 to 2000"));
     let (from, to) = window.split_once(" to ").ok_or("a window without an end")?;
     let (from, to) = (coordinate(from)?, coordinate(to)?);
@@ -100,9 +96,7 @@ fn look_at_fiber<R: Abort + AllocGlobal>(
     part: &SortedPart,
     ends: &mut Ends,
     row: &str,
-) -> Result<(), Fail>
-    requires { IsTool tool.now }
-{
+) -> Result<(), Fail> {
     let (fiber, wanted) = halves(row)?;
     let found = told_of(rt.alloc(), tool, part, ends, fiber)?;
     assert_eq!(rt; found.as_str(), wanted, "{row}");
@@ -114,9 +108,7 @@ fn look_at_fibers<R: Abort + AllocGlobal>(
     tool: &Tool,
     part: &SortedPart,
     table: &str,
-) -> Result<(), Fail>
-    requires { IsTool tool.now }
-{
+) -> Result<(), Fail> {
     let mut ends = Ends::new(rt.alloc(), part.part().tris().len())?;
     for row in table.lines() {
         look_at_fiber(rt, tool, part, &mut ends, row)?;
@@ -263,9 +255,23 @@ fn holder_near_a_point(rt: HostRuntime) -> Result<(), Fail> {
     each_fiber(&rt, "flat 100 in 200 50", POINT, HELD)
 }
 
+// The cutter's tip is 4,300 under the fiber, and so under all coordinates in the last row.
+const SUNK: &str = "\
+x 0 4600 => none
+x 0 4599 => 401 599
+x 100 0 => none
+x 0 -524287 => 401 599";
+
+#[test]
+fn cutter_under_its_tip(rt: HostRuntime) -> Result<(), Fail> {
+    let flat = Cutter::Flat { radius: 100 };
+    let sunk = Tool::bare(Solid::new(flat, LOWEST_LIFT));
+    look_at_fibers(&rt, &sunk, &part_of(rt.alloc(), POINT)?, SUNK)
+}
+
 /// What the runs of a flat cutter along one fiber over a part come to.
 fn told_over(alloc: Global, part: &str) -> Result<String, Fail> {
-    let flat = tool("flat 100")?;
+    let flat = Tool::bare(Solid::at_tip(Cutter::Flat { radius: 100 }));
     let part = part_of(alloc, part)?;
     let mut ends = Ends::new(alloc, 0)?;
     told_of(alloc, &flat, &part, &mut ends, "x 0 0")

@@ -1,15 +1,15 @@
 -- The moves of links, tours and the way home are safe, and lead on from each other.
-use Rattle.std.specs.Prelude.{◌≡◌, ◌⊎◌, ℕ, zero, suc, ◌<◌, Bool, true, false, ◌&&◌, if◌then◌else◌, ℤ, pos, ◌+ℤ◌, ◌-ℤ◌, ◌<ℤ◌, ◌≤ℤ◌, int_lt, List, [], ◌∷◌, ◌++◌, length, All}
+use Rattle.std.specs.Prelude.{◌≡◌, ◌⊎◌, ℕ, zero, suc, Bool, true, false, ◌&&◌, if◌then◌else◌, ℤ, pos, ◌+ℤ◌, ◌-ℤ◌, ◌<ℤ◌, ◌≤ℤ◌, int_lt, List, [], ◌∷◌, ◌++◌, All}
 use Rattle.std.specs.Ordering.{int_eq}
 use Rattle.std.specs.List.{flat_map}
 use Rattle.std.proofs.Common.{inl, inr, refl, sym, subst, ap, arith}
 use Rattle.std.proofs.lemmas.Int.{ints}
 use Rattle.std.proofs.lemmas.List.{append_assoc, append-nil}
-use Rattle.std.proofs.lemmas.List.Elements.{All-head, All-tail, Contains-get_or, Contains-append_right}
+use Rattle.std.proofs.lemmas.List.Elements.{All-head, All-tail, Contains-append_right}
 use Rattle.mill_base.specs.Covers.{IsUnder}
-use Rattle.mill_base.specs.Numbers.{Within, greater}
+use Rattle.mill_base.specs.Numbers.{Within, greater, lesser}
 use Rattle.mill_base.specs.Units.{greatest_of}
-use Rattle.mill_base.specs.Points.{highest, point_at, point_tri, tri_at}
+use Rattle.mill_base.specs.Points.{highest, point_at, point_tri}
 use Rattle.mill_base.specs.Ranges.{IsInUnitRange, MoveInUnitRange}
 use Rattle.mill_base.specs.declared.points.Pt3.{Pt3}
 use Rattle.mill_base.specs.declared.points.Tri.{Tri}
@@ -20,6 +20,7 @@ use Rattle.mill_dexel.proofs.TopLaws.{top_after_stays}
 use Rattle.mill_dexel.proofs.Cleared.{passes_after_cut}
 use Rattle.mill_dexel.proofs.Limits.{passes_limit_after_cut}
 use Rattle.mill_gouge.specs.Gouges.{ToolPassesPart}
+use Rattle.mill_gouge.proofs.Leasts.{over_part_passes}
 use Rattle.mill_job.specs.Columns.{column_x, column_y, home}
 use Rattle.mill_job.specs.Jobs.{IsJob, tool_of}
 use Rattle.mill_job.specs.declared.fields.JobFields.{JobFields}
@@ -33,7 +34,7 @@ use Rattle.mill_links.specs.declared.visit.Visit.{Visit}
 use Rattle.mill_links.proofs.Kept.{between}
 use Rattle.mill_links.proofs.Pecks.{Fit, pecks_connect, pecks_end, pecks_fit}
 use Rattle.mill_links.proofs.Points.{same_pair}
-use Rattle.mill_links.proofs.ToolLemmas.{passes_over, passes_under}
+use Rattle.mill_links.proofs.ToolLemmas.{passes_over, tip_lowest}
 
 through : (a b c : ℤ) → a ≤ℤ b → b ≤ℤ c → a ≤ℤ c
 through a b c p q = omega (p, q, arith, ints)
@@ -100,7 +101,7 @@ module _ (job : JobFields) (part : List Tri) (ok : IsJob job) (under : IsUnder p
     ranged = ranged;
     floor_from = through _ _ _ ok.stock from;
     floor_to = through _ _ _ ok.stock to;
-    passes = passes_under (tool_of job) m part ok.holder_ok (λ t inside. let h = low_tri t inside in (through _ _ _ h from, through _ _ _ h to));
+    passes = over_part_passes (tool_of job) part m job.top (tip_lowest job ok) under (both_over job.top start.z end.z from to);
     stock = λ rapid x y. let h = low_column x y in
         top_passes job.cutter m (point_tri (point_at x y (top_after job x y done))) (through _ _ _ h from) (through _ _ _ h to);
     depth = λ feed. absurd (rapid_is_no_feed feed);
@@ -109,18 +110,15 @@ module _ (job : JobFields) (part : List Tri) (ok : IsJob job) (under : IsUnder p
       m : Move
       m = rapid_to start end
 
-      low_tri : (t : ℕ) → t < length part → highest (tri_at part t) ≤ℤ job.top
-      low_tri t inside = let h = under (tri_at part t) (Contains-get_or part t _ inside) in by _ _ _ h
-        where
-          by : (a b c : ℤ) → (a ≤ℤ job.top) × (b ≤ℤ job.top) × (c ≤ℤ job.top) → greater a (greater b c) ≤ℤ job.top
-          by a b c h = all_low a b c job.top (omega (arith, ints, h)) (omega (arith, ints, h)) (omega (arith, ints, h))
+      both_over : (low a b : ℤ) → low ≤ℤ a → low ≤ℤ b → low ≤ℤ lesser a b
+      both_over low a b p q = grind (p, q, arith, ints)
 
       low_column : (x y : ℤ) → highest (point_tri (point_at x y (top_after job x y done))) ≤ℤ job.top
       low_column x y = let h = (top_after_stays job x y done ok.stock).high in all_low _ _ _ job.top h h h
 
   -- the tool doesn't gouge at a free place, so it passes the part on a move straight over it
   passes_free : (m : Move) (p : Pt3) → IsFreePlace job part p → StaysOver p m → ToolPassesPart (tool_of job) m part
-  passes_free m p at over = passes_over (tool_of job) m part p at.free over
+  passes_free m p at over = passes_over m part p over (tool_of job) at.free
 
   raised_range : (p : Pt3) (z : ℤ) → IsInUnitRange job.unit p → Within (greatest_of job.unit) z → IsInUnitRange job.unit (at_height p z)
   raised_range p z ranged high = record { x_ok = ranged.x_ok; y_ok = ranged.y_ok; z_ok = high }

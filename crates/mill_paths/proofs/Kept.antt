@@ -1,15 +1,13 @@
 -- What a job gives of a lattice and of its levels is in the range that calls take.
 use Rattle.std.proofs.Common.{ℕ, ◌<◌, length, get_or, arith}
-use Rattle.std.specs.Prelude.{ℤ, pos, ◌<ℤ◌, ◌≤ℤ◌}
+use Rattle.std.specs.Prelude.{ℤ, ◌<ℤ◌, ◌≤ℤ◌}
 use Rattle.std.proofs.lemmas.Int.{ints}
 use Rattle.std.proofs.lemmas.List.Elements.{All-get_or}
-use Rattle.mill_base.specs.Lattices.{IsLattice}
 use Rattle.mill_base.specs.Numbers.{Within}
 use Rattle.mill_base.specs.declared.limits.TheConstants.{MAX_COORDINATE}
 use Rattle.mill_base.proofs.Ranges.{within_of_unit}
 use Rattle.mill_job.specs.Jobs.{IsJob, IsLevel}
 use Rattle.mill_job.specs.declared.fields.JobFields.{JobFields}
-use Rattle.mill_paths.specs.Lattices.{lattice_by}
 
 -- each of its levels
 pub level_in_range : (job : JobFields) (k : ℕ) (d : ℤ) → IsJob job → k < length job.levels → Within MAX_COORDINATE (get_or job.levels k d)

@@ -149,7 +149,7 @@ module _ (tool : Tool) (part : List Tri) (z : ℤ) (unit : Unit) (lattice : Latt
   -- and the tool doesn't gouge there, nor higher
   crossing_free : (c : Crossing) → HasLastFree tool part z lattice grid c → (higher : ℤ) → z ≤ℤ higher → ¬ Gouged (point_at c.x c.y higher)
   crossing_free c last higher over gouges =
-      subst (λ p. ¬ Gouged p) (sym last.place) (last.free last.k (itself last.k)) (gouges_lower tool part c.x c.y z higher over gouges)
+      subst (λ p. ¬ Gouged p) (sym last.place) (last.free last.k (itself last.k)) (gouges_lower part c.x c.y z higher over tool gouges)
     where
       itself : (n : ℕ) → n ≤ n
       itself n = omega arith

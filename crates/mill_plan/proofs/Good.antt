@@ -10,12 +10,12 @@ use Rattle.mill_base.specs.declared.motion.Kind.TheVariants.{Rapid, Feed}
 use Rattle.mill_base.specs.declared.motion.Move.{Move}
 use Rattle.mill_base.specs.declared.points.Pt3.{Pt3}
 use Rattle.mill_base.specs.declared.points.Tri.{Tri}
-use Rattle.mill_base.specs.declared.tool.Holder.{Holder as OneHolder}
+use Rattle.mill_base.specs.Solids.{Solid}
 use Rattle.mill_job.specs.Columns.{IsColumn, column_x, column_y}
 use Rattle.mill_job.specs.declared.fields.JobFields.{JobFields}
-use Rattle.mill_gouge.specs.Gouges.{HolderPassesPart}
+use Rattle.mill_gouge.specs.Gouges.{PassesPart}
 use Rattle.mill_sweep.specs.Halving.{PassesPoint}
-use Rattle.mill_sweep.specs.Holders.{HolderPassesPoint}
+use Rattle.mill_sweep.specs.Solids.{SolidPassesPoint}
 use Rattle.mill_sweep.specs.declared.leaf.Leaf.{Leaf}
 use Rattle.mill_dexel.specs.Tops.{ClearsColumns, HolderClearsColumns, IsTested, tested_point, top_point}
 use Rattle.mill_links.specs.Safety.{AreSafe, Connect, GoSafely, IsSafeMove}
@@ -66,7 +66,7 @@ module _ (job : JobFields) (part : List Tri) where
   -- without a holder there is no further test
   no_holder : (done : List Move) (m : Move) → job.holder ≡ None → HolderClearsColumns job done m
   no_holder done m bare =
-      subst (λ (o : Option OneHolder). IfSome o (λ holder. (j i : ℕ) → IsColumn job j i → HolderPassesPoint holder m (top_point job done j i))) (sym bare) tt
+      subst (λ (o : Option Solid). IfSome o (λ holder. (j i : ℕ) → IsColumn job j i → SolidPassesPoint holder m (top_point job done j i))) (sym bare) tt
 
   pub good : (from to : Pt3) (moves : List Move) → job.holder ≡ None → GoSafely job part [] from moves to → GoodBefore job part moves (length moves)
   good from to moves bare go k inside =
@@ -107,8 +107,8 @@ module _ (job : JobFields) (part : List Tri) (moves : List Move) (all : AllPassF
   -- nor is its holder by a triangle
   not_held : (k t : ℕ) (leaf : Leaf) → FailsHolder job part moves k t leaf → ⊥
   not_held k t leaf fails =
-      let passes : HolderPassesPart fails.holder (move_at moves k) part =
-      subst (λ (o : Option OneHolder). IfSome o (λ holder. HolderPassesPart holder (move_at moves k) part)) fails.mounted (all k fails.there).holder in
+      let passes : PassesPart fails.holder (move_at moves k) part =
+      subst (λ (o : Option Solid). IfSome o (λ holder. PassesPart holder (move_at moves k) part)) fails.mounted (all k fails.there).holder in
       fails.fails.fails (passes t fails.tri)
 
   -- so such moves are rejected for nothing but the stock

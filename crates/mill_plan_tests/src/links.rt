@@ -103,18 +103,15 @@ fn told_way(alloc: Global, job: &Job, part: &SortedPart, way: &str) -> Result<St
     Ok(format!(in alloc; "{told}, tops {:?}", middle.tops())?)
 }
 
-fn told(alloc: Global, given: &str) -> Result<String, Fail> {
-    let (keys, way) = given.split_once(" | ").ok_or("a row without a way")?;
-    let (job, part) = (
-        job(alloc, keys)?,
-        part_of(alloc, corners_of("corner-peak")?)?,
-    );
-    told_way(alloc, &job, &part, way)
+fn told(alloc: Global, job: &Job, way: &str) -> Result<String, Fail> {
+    let part = part_of(alloc, corners_of("corner-peak")?)?;
+    told_way(alloc, job, &part, way)
 }
 
 fn look<R: Abort + AllocGlobal>(rt: &R, row: &str) -> Result<(), Fail> {
     let (given, wanted) = halves(row)?;
-    let told = told(rt.alloc(), given)?;
+    let (keys, way) = given.split_once(" | ").ok_or("a row without a way")?;
+    let told = told(rt.alloc(), &job(rt.alloc(), keys)?, way)?;
     same(rt, &told, wanted, row);
     Ok(())
 }

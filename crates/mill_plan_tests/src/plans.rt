@@ -143,11 +143,15 @@ const ENDS: &str = "6: \
 
 #[test]
 fn reads_thousandths_back(rt: HostRuntime) -> Result<(), Fail> {
+    look_at_ends(&rt)
+}
+
+fn look_at_ends<R: Abort + AllocGlobal>(rt: &R) -> Result<(), Fail> {
     let moves = read_back(rt.alloc(), &job(rt.alloc(), "far")?, THOUSANDTHS)?;
     let (Some(first), Some(last)) = (moves.first(), moves.last()) else {
         return Err(Fail::from("no moves"));
     };
     let told = format!(in rt.alloc(); "{}: {first:?}, {last:?}", moves.len())?;
-    same(&rt, &told, ENDS, "far");
+    same(rt, &told, ENDS, "far");
     Ok(())
 }

@@ -6,7 +6,7 @@ use lib.Signed.{◌≤ℤ◌}
 use Rattle.mill_base.specs.Contact.{Touches}
 use Rattle.mill_base.specs.Numbers.{Within}
 use Rattle.mill_base.specs.Sizes.{IsCutter, IsWideCutter, radius_of}
-use Rattle.mill_base.specs.declared.limits.TheConstants.{LOWEST_TIP, MAX_COORDINATE}
+use Rattle.mill_base.specs.declared.limits.TheConstants.{LOWEST_LIFT, LOWEST_TIP, MAX_COORDINATE}
 use Rattle.mill_base.specs.declared.points.Tri.{Tri}
 use Rattle.mill_base.specs.declared.points.Pt3.{Pt3}
 use Rattle.mill_base.specs.declared.cutter.Cutter.{Cutter}
@@ -19,10 +19,9 @@ use Rattle.mill_geom.specs.Offsets.{IsCentre}
 use Rattle.mill_geom.proofs.Along.{touch_carried}
 use Rattle.mill_push.specs.declared.fiber.Fiber.{Fiber}
 use Rattle.mill_push.specs.Fibers.{IsTouched, place_on, tip_on}
-use Rattle.mill_push.specs.Touches.{IsFiber}
 use Rattle.mill_push.specs.declared.stretch.Pusher.{Pusher}
-use Rattle.mill_push.specs.inner.Pushers.{IsPusher}
-use Rattle.mill_push.proofs.Stored.{through, stored, stored_reach, less_reach, and_reach}
+use Rattle.mill_push.specs.inner.Pushers.{IsPusher, IsTipFiber}
+use Rattle.mill_push.proofs.Stored.{small, through, stored, stored_reach, less_reach, and_reach}
 
 -- a job's cutter is one of a contact test's
 pub is_wide : (cutter : Cutter) → IsCutter cutter → IsWideCutter cutter
@@ -54,19 +53,19 @@ pub about : (p : Pusher) (x : ℤ) → IsPusher p → Within MAX_COORDINATE x
     → (to_z w32 (of_z w32 (to_z w32 (of_z w32 x) -ℤ to_z w32 (of_z w32 p.reach))) ≡ x -ℤ p.reach) × (to_z w32 (of_z w32 (to_z w32 (of_z w32 x) +ℤ to_z w32 (of_z w32 p.reach))) ≡ x +ℤ p.reach)
 about p x ok h = about_by p.reach x ok.reach_least (most_reach p ok) h
 
--- the tips of a fiber are in range
-over_lowest : (z : ℤ) → Within MAX_COORDINATE z → LOWEST_TIP ≤ℤ z
-over_lowest z h = let w = h.within in omega (arith, ints)
+-- the tips of a fiber are in range, and its height is stored as it is
+over_lowest : (z : ℤ) → (LOWEST_LIFT -ℤ pos MAX_COORDINATE) ≤ℤ z → LOWEST_TIP ≤ℤ z
+over_lowest z h = omega (arith, ints)
 
-under_most : (z : ℤ) → Within MAX_COORDINATE z → z ≤ℤ pos MAX_COORDINATE
-under_most z h = let w = h.within in omega (arith, ints)
+pub height_stored : (fiber : Fiber) → IsTipFiber fiber → to_z w32 (of_z w32 fiber.z) ≡ fiber.z
+height_stored fiber h = small fiber.z (let a = h.z_least in let b = h.z_most in omega (arith, ints))
 
-pub tip_centre : (fiber : Fiber) (v : ℤ) → IsFiber fiber → Within MAX_COORDINATE v → IsCentre (tip_on fiber v)
+pub tip_centre : (fiber : Fiber) (v : ℤ) → IsTipFiber fiber → Within MAX_COORDINATE v → IsCentre (tip_on fiber v)
 tip_centre fiber v h k = by fiber.axis
   where
     by : (axis : Axis) → IsCentre (place_on axis fiber.at fiber.z v)
-    by X = record { x_ok = k; y_ok = h.at_ok; z_from = over_lowest fiber.z h.z_ok; z_to = under_most fiber.z h.z_ok }
-    by Y = record { x_ok = h.at_ok; y_ok = k; z_from = over_lowest fiber.z h.z_ok; z_to = under_most fiber.z h.z_ok }
+    by X = record { x_ok = k; y_ok = h.at_ok; z_from = over_lowest fiber.z h.z_least; z_to = h.z_most }
+    by Y = record { x_ok = h.at_ok; y_ok = k; z_from = over_lowest fiber.z h.z_least; z_to = h.z_most }
 
 -- t further along the axis than the tip at v is the tip at v + t
 along_is : (axis : Axis) (across z v t : ℤ) → along axis (place_on axis across z v) t ≡ place_on axis across z (v +ℤ t)

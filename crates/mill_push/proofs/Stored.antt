@@ -12,7 +12,7 @@ pub at_most_from : (a b : ℤ) → lt_z b a ≡ false → a ≤ℤ b
 at_most_from a b h = omega (h, arith, ints)
 
 -- a small number is stored as it is
-small : (v : ℤ) → nat_abs v < 2147483648 → to_z w32 (of_z w32 v) ≡ v
+pub small : (v : ℤ) → nat_abs v < 2147483648 → to_z w32 (of_z w32 v) ≡ v
 small v h = to_z-of_z w32 v (fits_signed_from_abs w32 v h)
 
 -- a number between two in range, and its neighbours

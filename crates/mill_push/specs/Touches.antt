@@ -1,16 +1,15 @@
 -- How many touches a push may take.
-use Rattle.std.specs.Prelude.{◌≡◌, ℕ, ◌+◌, ◌*◌, ◌^◌, ◌<◌, ◌≤◌, nat_abs, nat_eq, ℤ, ◌+ℤ◌, ◌-ℤ◌, ◌<ℤ◌, List, length, Contains, MatchOption}
+use Rattle.std.specs.Prelude.{◌≡◌, ℕ, ◌+◌, ◌*◌, ◌^◌, ◌<◌, ◌≤◌, nat_abs, nat_eq, ℤ, pos, ◌+ℤ◌, ◌-ℤ◌, ◌<ℤ◌, List, length, Contains, MatchOption}
 use Rattle.std.specs.Option.{option_map_or}
 use Rattle.std.specs.List.{IsDistinct}
 use Rattle.mill_base.specs.Numbers.{Within}
 use Rattle.mill_base.specs.Points.{highest, tri_at}
 use Rattle.mill_base.specs.Sizes.{radius_of}
-use Rattle.mill_base.specs.Tools.{solid_of}
+use Rattle.mill_base.specs.Solids.{Solid, higher}
 use Rattle.mill_base.specs.declared.limits.TheConstants.{MAX_COORDINATE}
 use Rattle.mill_base.specs.declared.points.Tri.{Tri}
 use Rattle.mill_base.specs.declared.points.Box2.{Box2}
 use Rattle.mill_base.specs.declared.cutter.Cutter.{Cutter}
-use Rattle.mill_base.specs.declared.tool.Holder.{Holder}
 use Rattle.mill_base.specs.declared.tool.Tool.{Tool}
 use Rattle.mill_geom.specs.declared.touch.Axis.{Axis}
 use Rattle.mill_geom.specs.declared.touch.Axis.TheVariants.{X, Y}
@@ -51,15 +50,19 @@ pub record TouchesFew (cutter : Cutter) (part : List Tri) (fiber : Fiber) (from 
   pub tried : (i : ℕ) → Contains numbers i → IsTried cutter part fiber from to i
   pub bound : (n : ℕ) → position_count from to < 2 ^ n → new ≤ old + 2 * n * length numbers
 
--- the fiber of the holder's tip, with the cutter's on this one: higher by the stickout
-abbrev pub lifted : Holder → Fiber → Fiber
-lifted holder fiber = record { axis = fiber.axis; at = fiber.at; z = fiber.z +ℤ holder.stickout }
+-- the fiber of the solid's own tip, with the tool's on this one: higher by the lift
+abbrev pub lifted : Solid → Fiber → Fiber
+lifted solid fiber = record { axis = fiber.axis; at = fiber.at; z = higher (pos 1) fiber.z solid.lift }
+
+-- so the counter rose by touches of this solid of the tool
+abbrev pub SolidTouchesFew : Solid → List Tri → Fiber → ℤ → ℤ → ℕ → ℕ → Type 0
+SolidTouchesFew solid part fiber from to old new = TouchesFew solid.cutter part (lifted solid fiber) from to old new
 
 -- the counter rose first by touches of the cutter, to `middle`, and then by touches of the holder, where there is one
 pub record ToolTouchesFew (tool : Tool) (part : List Tri) (fiber : Fiber) (from to : ℤ) (old new : ℕ) : Type 0 where
   pub middle : ℕ
-  pub cutter : TouchesFew tool.cutter part fiber from to old middle
-  pub holder : MatchOption tool.holder (new ≡ middle) (λ h. TouchesFew (solid_of h) part (lifted h fiber) from to middle new)
+  pub cutter : SolidTouchesFew tool.cutter part fiber from to old middle
+  pub holder : MatchOption tool.holder (new ≡ middle) (λ holder. SolidTouchesFew holder part fiber from to middle new)
 
 -- how many touches each triangle may take: 40 by the cutter, and 40 by the holder
 abbrev pub most_touches : Tool → ℕ

@@ -1,7 +1,6 @@
 ghost use Rattle.std.specs.Prelude.{◌≡◌, ◌+◌, ◌*◌, ◌≤◌, ◌≤ℤ◌, length, IfOk};
 ghost use Rattle.mill_base.specs.Numbers.{Within};
 ghost use Rattle.mill_base.specs.declared.limits.TheConstants.{MAX_COORDINATE};
-ghost use Rattle.mill_base.specs.Tools.{IsTool};
 ghost use Rattle.mill_push.specs.Runs.{AreRuns};
 ghost use Rattle.mill_push.specs.Touches.{IsFiber, ToolTouchesFew, most_touches};
 
@@ -15,13 +14,13 @@ use std::alloc::Global;
 use std::sync::ledger::Ledger;
 
 /// The maximal runs of whole positions from `from` to `to` along the fiber at which the tool gouges
-/// the part, ascending: a part point is strictly inside the cutter, whose tip is on the fiber, or
-/// strictly inside its holder.
+/// the part, ascending: with the tool's tip on the fiber, a part point is strictly inside its
+/// cutter or its holder.
 ///
-/// `steps` counts the touches: at most 40 of the cutter for each triangle, and none of one that isn't
-/// near the fiber or isn't over its height; then as many of the holder, near the fiber that is higher
-/// by its stickout. Lengths are in units, of at most `MAX_COORDINATE` in magnitude. The only error is
-/// want of memory; the touches made before it are counted.
+/// `steps` counts the touches: at most 40 of the cutter for each triangle, and none of one that
+/// isn't near the fiber of the cutter's own tip or isn't over its height; then as many of the
+/// holder, near the fiber of its tip. Lengths are in units, of at most `MAX_COORDINATE` in
+/// magnitude. The only error is want of memory; the touches made before it are counted.
 pub fn push<L: Ledger>(
     alloc: Global,
     part: &SortedPart,
@@ -31,7 +30,6 @@ pub fn push<L: Ledger>(
     to: i32,
     steps: &mut Steps<L>,
 ) -> Result<Vec<Run>, WantOfMemory>
-    requires tool_ok { IsTool tool.now }
     requires fiber_ok { IsFiber fiber }
     requires from_ok { Within MAX_COORDINATE from }
     requires to_ok { Within MAX_COORDINATE to }
@@ -44,9 +42,10 @@ pub fn push<L: Ledger>(
     push_after(alloc, part, tool, fiber, from, to, &mut ends, steps)
 }
 
-/// The same as `push`, after other pushes of the same cutter along fibers beside this one: it looks for
-/// the ends of each triangle's stretch where they come from what `ends` kept of the push before, and
-/// keeps where they are. So it mostly takes fewer touches. Of the holder nothing is kept.
+/// The same as `push`, after other pushes of the same cutter along fibers beside this one: it looks
+/// for the ends of each triangle's stretch where they come from what `ends` kept of the push
+/// before, and keeps where they are. So it mostly takes fewer touches. Of the holder nothing is
+/// kept.
 ///
 /// `ends` is for the part's count of triangles. Whatever it holds, the runs are the same.
 pub fn push_after<L: Ledger>(
@@ -59,7 +58,6 @@ pub fn push_after<L: Ledger>(
     ends: &mut Ends,
     steps: &mut Steps<L>,
 ) -> Result<Vec<Run>, WantOfMemory>
-    requires tool_ok { IsTool tool.now }
     requires fiber_ok { IsFiber fiber }
     requires from_ok { Within MAX_COORDINATE from }
     requires to_ok { Within MAX_COORDINATE to }

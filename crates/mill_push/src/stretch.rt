@@ -16,7 +16,7 @@ use mill_geom::{Axis, Side, Touch};
 use mill_hints::Aims;
 use std::sync::ledger::Ledger;
 
-/// A cutter that is pushed along a fiber.
+/// A cutter that is pushed along the fiber of its tip, which may be lower than any coordinate.
 ///
 /// Every point of the part that it holds is nearer to its axis than the reach.
 #[derive(Clone, Copy)]

@@ -11,12 +11,13 @@ ghost use Rattle.mill_push.specs.inner.Windows.{other_than};
 use crate::fiber::Run;
 use crate::reach::reach_up_to;
 use crate::stretch::Pusher;
-use mill_base::{Pt3, Tri};
+use mill_base::{MAX_COORDINATE, Pt3, Tri};
 use mill_geom::{Axis, extent_over};
 
 impl Pusher {
     /// The positions from `from` to `to` at which what the triangle has over the fiber's height is
-    /// within the cutter's reach for it: at no other is the triangle touched.
+    /// within the cutter's reach for it: at no other is the triangle touched. They are all of them
+    /// where the fiber is under the lowest coordinate.
     pub fn window(self, tri: &Tri, from: i32, to: i32) -> Run
         requires self_ok { IsPusher self }
         requires tri_ok { TriInRange tri.now }
@@ -26,6 +27,12 @@ impl Pusher {
         ensures in_range { IsRunInRange result }
         ensures window { IsWindow self.cutter tri.now self.fiber from to result }
     {
+        if self.fiber.z < -(MAX_COORDINATE as i32) {
+            return Run {
+                first: from,
+                last: to,
+            };
+        }
         let reach = self.reach_for(tri);
         if self.is_beside(tri, reach) {
             return Run {
@@ -55,6 +62,7 @@ impl Pusher {
     fn is_beside(self, tri: &Tri, reach: i32) -> bool
         requires self_ok { IsPusher self }
         requires tri_ok { TriInRange tri.now }
+        requires z_ok { Within MAX_COORDINATE self.fiber.z }
         requires reach_ok { IsReachForTri self.cutter self.fiber.z reach tri.now }
         ensures { IsTrue result → (v : ℤ) → ¬ IsTouched self.cutter tri.now self.fiber v }
     {

@@ -1,12 +1,11 @@
 -- A move by itself on a stock, and as one of a program's.
-use Rattle.std.specs.Prelude.{◌≡◌, ℕ, zero, suc, ◌<◌, List, [], ◌∷◌, length, Option, None, Some, IfSome, refl}
+use Rattle.std.specs.Prelude.{◌≡◌, ℕ, zero, suc, ◌<◌, List, [], ◌∷◌, length, refl}
 use Rattle.std.proofs.Common.{sym, ◌∙◌, ap, subst, arith}
 use Rattle.mill_base.specs.declared.points.Tri.{Tri}
 use Rattle.mill_base.specs.declared.motion.Move.{Move}
 use Rattle.mill_base.specs.declared.motion.Kind.{Kind}
 use Rattle.mill_base.specs.declared.motion.Kind.TheVariants.{Rapid, Feed}
 use Rattle.mill_base.specs.Points.{point_tri, tri_at}
-use Rattle.mill_base.specs.declared.tool.Holder.{Holder as OneHolder}
 use Rattle.mill_sweep.specs.declared.leaf.Leaf.{Leaf}
 use Rattle.mill_job.specs.declared.fields.JobFields.{JobFields}
 use Rattle.mill_dexel.specs.Tops.{Stock, top_point_on, uncut}
@@ -17,14 +16,6 @@ use Rattle.mill_verify.specs.declared.verdict.Reason.{Reason}
 use Rattle.mill_verify.specs.declared.verdict.Reason.TheVariants.{Floor, Gouge, Holder, Rapid as RapidCut, Cut, HolderStock, Left}
 use Rattle.mill_verify.proofs.Unique.{moves_fail, one_reason}
 use Rattle.mill_report.specs.Findings.{FailsAlone, IsFinding, move_of, numbered}
-
--- what holds of the holder that is there
-pub of_some : (P : OneHolder → Type 0) (o : Option OneHolder) (a : OneHolder) → o ≡ Some a → IfSome o P → P a
-of_some P o a there holds = subst (λ (x : Option OneHolder). IfSome x P) there holds
-
-pub if_some : (P : OneHolder → Type 0) (o : Option OneHolder) → ((a : OneHolder) → o ≡ Some a → P a) → IfSome o P
-if_some P None holds = tt
-if_some P (Some a) holds = holds a refl
 
 -- a reason, by what it is but for its number, and by that
 renumbered : (r : Reason) → numbered (move_of r) (numbered 0 r) ≡ r

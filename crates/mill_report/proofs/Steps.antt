@@ -3,18 +3,16 @@ use Rattle.std.specs.Prelude.{◌≡◌, ℕ, List, [], ◌∷◌, Some, refl}
 use Rattle.std.proofs.Common.{arith}
 use Rattle.mill_base.specs.Points.{point_tri, tri_at}
 use Rattle.mill_base.specs.Ranges.{MoveInRange}
-use Rattle.mill_base.specs.Tools.{IsHolder}
+use Rattle.mill_base.proofs.SolidLemmas.{cutter_is_solid}
+use Rattle.mill_base.specs.Solids.{IsSolid, Solid, at_tip}
 use Rattle.mill_base.specs.declared.points.Tri.{Tri}
 use Rattle.mill_base.specs.declared.motion.Move.{Move}
 use Rattle.mill_base.specs.declared.motion.Kind.{Kind}
 use Rattle.mill_base.specs.declared.motion.Kind.TheVariants.{Rapid, Feed}
-use Rattle.mill_base.specs.declared.tool.Holder.{Holder as OneHolder}
-use Rattle.mill_gouge.specs.Gouges.{IsFirstGouge, IsFirstHolderGouge, PassesPart, ToolPassesPart}
+use Rattle.mill_gouge.specs.Gouges.{IsFirstGouge, PassesPart, ToolPassesPart}
 use Rattle.mill_gouge.specs.declared.gouge.Gouge.{Gouge as OneGouge}
-use Rattle.mill_sweep.specs.Halving.{Blocks, FailsAt}
-use Rattle.mill_sweep.specs.Holders.{HolderFailingIsBlocked, HolderFailsAt, HolderIsBlocked}
-use Rattle.mill_sweep.specs.Leaves.{span_of}
 use Rattle.mill_sweep.specs.Moments.{FailingIsBlocked}
+use Rattle.mill_sweep.specs.Solids.{SolidFailsAt, SolidIsBlocked}
 use Rattle.mill_sweep.specs.declared.leaf.Leaf.{Leaf}
 use Rattle.mill_job.specs.declared.fields.JobFields.{JobFields}
 use Rattle.mill_job.specs.Jobs.{IsJob, tool_of}
@@ -28,33 +26,35 @@ use Rattle.mill_verify.specs.declared.block.PartFail.{PartFail}
 use Rattle.mill_verify.specs.declared.block.PartFail.TheVariants as fail
 use Rattle.mill_verify.specs.Verdicts.{BlocksHolder, BlocksLeaf, FailsHolderStockOn, FailsStockOn}
 use Rattle.mill_verify.specs.declared.verdict.Reason.TheVariants.{Gouge, Holder}
+use Rattle.mill_verify.proofs.Mounted.{of_some}
 use Rattle.mill_report.specs.inner.Steps.{FailsMove, FailsPart}
 use Rattle.mill_report.specs.inner.Stops.{IsCutStop, IsHolderStop, PassesStock, StopsBy}
 use Rattle.mill_report.specs.declared.pass.Stop.{Stop}
-use Rattle.mill_report.proofs.Alone.{of_some}
 
-module _ (failing_is_blocked : FailingIsBlocked) (holder_failing_is_blocked : HolderFailingIsBlocked) (job : JobFields) (m : Move) (job_ok : IsJob job) (range : MoveInRange m) where
+module _ (failing_is_blocked : FailingIsBlocked) (job : JobFields) (m : Move) (job_ok : IsJob job) (range : MoveInRange m) where
   -- a leaf at which a test fails is one of the last
-  leaf_named : (leaf : Leaf) (tri : Tri) → FailsAt job.cutter m tri leaf → Blocks job.cutter (span_of m leaf.d leaf.k) tri → BlocksLeaf job.cutter m leaf tri
-  leaf_named leaf tri fails blocked = record { last = (failing_is_blocked job.cutter m tri leaf job_ok.cutter_ok range fails).0; blocks = blocked }
+  leaf_named : (solid : Solid) → IsSolid solid → (leaf : Leaf) (tri : Tri) → SolidFailsAt solid m tri leaf → SolidIsBlocked solid m tri leaf → BlocksLeaf solid m leaf tri
+  leaf_named solid ok leaf tri fails blocked = record { last = (failing_is_blocked solid m tri leaf ok range fails).0; blocks = blocked }
 
-  held_named : (holder : OneHolder) (leaf : Leaf) (tri : Tri) → job.holder ≡ Some holder → HolderFailsAt holder m tri leaf → HolderIsBlocked holder m tri leaf → BlocksHolder job (m ∷ []) 0 leaf tri
+  cutter_ok : IsSolid (at_tip job.cutter)
+  cutter_ok = cutter_is_solid job.cutter job_ok.cutter_ok
+
+  held_named : (holder : Solid) (leaf : Leaf) (tri : Tri) → job.holder ≡ Some holder → SolidFailsAt holder m tri leaf → SolidIsBlocked holder m tri leaf → BlocksHolder job (m ∷ []) 0 leaf tri
   held_named holder leaf tri mounted fails blocked =
-      let ok : IsHolder holder = of_some IsHolder job.holder holder mounted job_ok.holder_ok in
-      record { holder = holder; mounted = mounted; blocks = record { last = (holder_failing_is_blocked holder m tri leaf ok range fails).0; blocks = blocked } }
+      record { holder = holder; mounted = mounted; blocks = leaf_named holder (of_some IsSolid job.holder holder mounted job_ok.holder_ok) leaf tri fails blocked }
 
   -- ---- the tests against the part
-  gouges : (part : List Tri) (number : ℕ) (gouge : OneGouge) → IsFirstGouge job.cutter m part gouge → FailsPart job part m number (Gouge number gouge.tri gouge.leaf)
+  gouges : (part : List Tri) (number : ℕ) (gouge : OneGouge) → IsFirstGouge (at_tip job.cutter) m part gouge → FailsPart job part m number (Gouge number gouge.tri gouge.leaf)
   gouges part number gouge h stock over = record {
     at = refl;
     fails = record {
       of_move = tt;
       rejects = record { there = omega arith; before = λ e less. absurd (omega (less, arith)); floor = over; tri = h.tri; first = h.first; fails = h.fails };
     };
-    names = leaf_named gouge.leaf (tri_at part gouge.tri) h.fails h.blocked;
+    names = leaf_named (at_tip job.cutter) cutter_ok gouge.leaf (tri_at part gouge.tri) h.fails h.blocked;
   }
 
-  holder_gouges : (part : List Tri) (number : ℕ) (holder : OneHolder) (gouge : OneGouge) → PassesPart job.cutter m part → job.holder ≡ Some holder → IsFirstHolderGouge holder m part gouge
+  holder_gouges : (part : List Tri) (number : ℕ) (holder : Solid) (gouge : OneGouge) → PassesPart (at_tip job.cutter) m part → job.holder ≡ Some holder → IsFirstGouge holder m part gouge
       → FailsPart job part m number (Holder number gouge.tri gouge.leaf)
   holder_gouges part number holder gouge clears mounted h stock over = record {
     at = refl;
@@ -93,9 +93,9 @@ module _ (failing_is_blocked : FailingIsBlocked) (holder_failing_is_blocked : Ho
       holder = tool.holder;
       is = refl;
       tested = h.tested;
-      column = h.column;
-      first = h.first;
-      fails = h.fails;
+      column = h.at.column;
+      first = h.at.first;
+      fails = h.at.fails;
     }
 
     held_fails : (stop : Stop) → IsHolderStop job stock m stop → FailsHolderStockOn job part stock (m ∷ []) 0 stop.row stop.col stop.leaf
@@ -108,22 +108,22 @@ module _ (failing_is_blocked : FailingIsBlocked) (holder_failing_is_blocked : Ho
       stock = h.cut;
       holder = h.holder;
       mounted = h.mounted;
-      column = h.column;
-      first = h.first;
-      fails = h.fails;
+      column = h.at.column;
+      first = h.at.first;
+      fails = h.at.fails;
     }
 
     by_kind : (kind : Kind) (stop : Stop) → FailsStockOn job part stock (m ∷ []) kind 0 stop.row stop.col stop.leaf
-        → BlocksLeaf job.cutter m stop.leaf (point_tri (tested_point_on job kind stock stop.row stop.col)) → FailsMove job part stock m number (cut_reason kind number stop.row stop.col stop.leaf)
+        → BlocksLeaf (at_tip job.cutter) m stop.leaf (point_tri (tested_point_on job kind stock stop.row stop.col)) → FailsMove job part stock m number (cut_reason kind number stop.row stop.col stop.leaf)
     by_kind Rapid stop h names = record { at = refl; fails = record { of_move = tt; rejects = h }; names = names }
     by_kind Feed stop h names = record { at = refl; fails = record { of_move = tt; rejects = h }; names = names }
 
     by_test : (t : RowTest) (stop : Stop) → StopsBy t job stock m stop → FailsMove job part stock m number (stock_reason t m.kind number stop.row stop.col stop.leaf)
-    by_test test.Cut stop h = by_kind m.kind stop (cut_fails stop h) (leaf_named stop.leaf (point_tri (tested_point_on job m.kind stock stop.row stop.col)) h.fails h.blocked)
+    by_test test.Cut stop h = by_kind m.kind stop (cut_fails stop h) (leaf_named (at_tip job.cutter) cutter_ok stop.leaf (point_tri (tested_point_on job m.kind stock stop.row stop.col)) h.at.fails h.at.blocked)
     by_test test.Holder stop h = record {
       at = refl;
       fails = record { of_move = tt; rejects = held_fails stop h };
-      names = held_named h.holder stop.leaf (point_tri (top_point_on job stock stop.row stop.col)) h.mounted h.fails h.blocked;
+      names = held_named h.holder stop.leaf (point_tri (top_point_on job stock stop.row stop.col)) h.mounted h.at.fails h.at.blocked;
     }
 
     pub stopped : (stop : Stop) → StopsBy stop.test job stock m stop → FailsMove job part stock m number (stock_reason stop.test m.kind number stop.row stop.col stop.leaf)

@@ -9,7 +9,7 @@ use crate::pass::Stop;
 use mill_base::Move;
 use mill_job::Job;
 use mill_part::SortedPart;
-use mill_sweep::{failing_is_blocked, holder_failing_is_blocked};
+use mill_sweep::failing_is_blocked;
 use mill_verify::{Reason, is_over_floor, part_fail, part_reason, stock_reason};
 
 /// The first test that move `number` fails, where the stock that it meets stops it so, or doesn't; none where it
@@ -30,9 +30,8 @@ pub fn finding_of(
     if !is_over_floor(job, step) {
         return Some(Reason::Floor { at: number });
     }
-    // Laws without code: a leaf that fails, of the cutter or of the holder, is one of the last of its move.
+    // A law without code: a leaf that fails, of the cutter or of the holder, is one of the last of its move.
     failing_is_blocked();
-    holder_failing_is_blocked();
     if let Some(fail) = part_fail(job, part, step) {
         return Some(part_reason(number, fail));
     }

@@ -1,6 +1,6 @@
 //! All that the program does: the words, the files, and the document.
 ghost use Rattle.std.specs.Prelude.{◌≡◌, false, map, string_bytes};
-ghost use Rattle.mill_answer.specs.Calls.{BlamesReads, BlamesWrites, CanCount, call_of};
+ghost use Rattle.mill_answer.specs.Calls.{BlamesFaults, CanCount, call_of};
 ghost use Rattle.mill_io.specs.Readings.{AreHeld};
 ghost use Rattle.mill_io.specs.Views.{ReadsOnly};
 ghost use Rattle.mill_report_run.specs.Headline.{Completes, Headline, Untaken};
@@ -38,9 +38,7 @@ pub fn run<R: Threads + Sync, S: Shelf, O: Sink>(
 
     // It ends as a failed write exactly where a write of the sink has failed, and as a failed read
     // exactly where a read of the store has failed and the sink has not.
-    ensures write { BlamesWrites (call_of result
-        (S.shows shelf.old) (S.shows shelf.new) (O.shows out.old) (O.shows out.new)) }
-    ensures read { BlamesReads (call_of result
+    ensures faults { BlamesFaults (call_of result
         (S.shows shelf.old) (S.shows shelf.new) (O.shows out.old) (O.shows out.new)) }
 
     // Nothing is written to the store; where the words aren't taken, no call on it is made.

@@ -5,7 +5,7 @@ ghost use Rattle.mill_base.specs.Points.{point_at};
 ghost use Rattle.mill_base.specs.Ranges.{MovesInRange};
 
 use crate::samples::{block_job, down, edge, plate, up};
-use mill_base::{Holder, Kind, Move};
+use mill_base::{Cutter, Kind, Move, Solid};
 use mill_crew::Threaded;
 use mill_job::Job;
 use mill_part::SortedPart;
@@ -155,10 +155,7 @@ const HELD_FAILING: &str = "[\
 #[test]
 fn tells_of_the_cutter_before_the_holder(rt: HostRuntime) -> Result<(), Fail> {
     let alloc = rt.alloc();
-    let holder = Holder {
-        radius: 120,
-        stickout: 60,
-    };
+    let holder = Solid::new(Cutter::Flat { radius: 120 }, 60);
     let told = failing(alloc, &block_job(0, Some(holder)), &plate(alloc)?, &held())?;
     assert_eq!(rt; told.as_str(), HELD_FAILING);
     Ok(())
@@ -179,10 +176,7 @@ const BESIDE_FAILING: &str = "[Holder { at: 0, tri: 0, leaf: Leaf { d: 8, k: 245
 #[test]
 fn tells_of_a_holder_in_the_part(rt: HostRuntime) -> Result<(), Fail> {
     let alloc = rt.alloc();
-    let holder = Holder {
-        radius: 80,
-        stickout: 40,
-    };
+    let holder = Solid::new(Cutter::Flat { radius: 80 }, 40);
     let told = failing(alloc, &block_job(0, Some(holder)), &edge(alloc)?, &beside())?;
     assert_eq!(rt; told.as_str(), BESIDE_FAILING);
     Ok(())

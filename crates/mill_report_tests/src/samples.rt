@@ -1,14 +1,15 @@
 //! Jobs, parts and moves, for the tests.
-ghost use Rattle.std.specs.Prelude.{◌≡◌, ◌<ℤ◌, pos, IfOk, IfSome};
+ghost use Rattle.std.specs.Prelude.{◌≡◌, ◌<ℤ◌, ◌≤ℤ◌, pos, IfOk, IfSome};
 ghost use Rattle.mill_base.specs.Numbers.{Within};
 ghost use Rattle.mill_base.specs.declared.limits.TheConstants.{MAX_COORDINATE};
 ghost use Rattle.mill_base.specs.Points.{point_at};
 ghost use Rattle.mill_base.specs.Covers.{IsUnder};
 ghost use Rattle.mill_base.specs.Ranges.{MoveInRange};
-ghost use Rattle.mill_base.specs.Tools.{IsHolder};
+ghost use Rattle.mill_base.specs.Sizes.{radius_of};
+ghost use Rattle.mill_base.specs.Solids.{IsSolid};
 ghost use Rattle.mill_job.specs.Columns.{home};
 
-use mill_base::{Box2, Cutter, Holder, Kind, Move, Pt3, Unit};
+use mill_base::{Box2, Cutter, Kind, Move, Pt3, Solid, Unit};
 use mill_decimal::Snap;
 use mill_job::{Job, JobFields, Levels, Place};
 use mill_part::SortedPart;
@@ -18,9 +19,10 @@ use std::test::Fail;
 
 /// A block of stock from 0 to 300 over a square of 200, and nine columns in it, 100 apart. The cutter is so narrow
 /// that it cuts one column at a time. A feed may cut this deep and no deeper; 0 is no limit.
-pub(crate) fn block_job(max_cut: u8, holder: Option<Holder>) -> Job
-    requires holder_ok { IfSome holder IsHolder }
-    requires wider { IfSome holder (λ around. pos 50 <ℤ around.radius) }
+pub(crate) fn block_job(max_cut: u8, holder: Option<Solid>) -> Job
+    requires holder_ok { IfSome holder IsSolid }
+    requires stickout { IfSome holder (λ around. pos 1 ≤ℤ around.lift) }
+    requires wider { IfSome holder (λ around. pos 50 <ℤ radius_of around.cutter) }
     ensures top { result.fields.top ≡ pos 300 }
     ensures start { home result.fields ≡ point_at (pos 100) (pos 100) (pos 400) }
 {

@@ -3,8 +3,8 @@ ghost use Rattle.std.specs.Prelude.{◌≡◌, ◌-◌, ◌^◌, ◌<◌, ℕ, m
 ghost use Rattle.mill_command.specs.Requests.{IsBounded, request_of, sample as asks_sample};
 ghost use Rattle.mill_io.specs.Readings.{AreHeld};
 ghost use Rattle.mill_io.specs.Views.{ReadsOnly};
-ghost use Rattle.mill_answer.specs.Calls.{CanCount, BlamesReads, BlamesWrites, call_of};
-ghost use Rattle.mill_run.specs.Headline.{Answers, Completes, Untaken, Headline, PlanHeadline, StockHeadline, RestHeadline};
+ghost use Rattle.mill_answer.specs.Calls.{BlamesFaults, CanCount, call_of};
+ghost use Rattle.mill_run.specs.Headline.{Headline, PlanHeadline, Replies, RestHeadline, StockHeadline};
 ghost use Rattle.mill_run.specs.Outcomes.{HasOutcome, Serves};
 ghost use Rattle.mill_run.specs.inner.Prints.{PrintsOutcome, refusal_outcome};
 ghost use Rattle.mill_answer.specs.Statuses.{status_code};
@@ -45,12 +45,9 @@ pub fn run<R: Threads + Sync, S: Shelf, O: Sink>(
 ) -> Status
     requires { CanCount (S.shows shelf.old) (O.shows out.old) }
 
-    // It ends as a failed write exactly where a write of the store or the sink has failed.
-    ensures write { BlamesWrites (call_of result
-        (S.shows shelf.old) (S.shows shelf.new) (O.shows out.old) (O.shows out.new)) }
-
-    // It ends as a failed read exactly where a read of the store has failed and the sink has not.
-    ensures read { BlamesReads (call_of result
+    // It ends as a failed write exactly where a write of the store or the sink has failed, and as a
+    // failed read exactly where a read of the store has failed and the sink has not.
+    ensures faults { BlamesFaults (call_of result
         (S.shows shelf.old) (S.shows shelf.new) (O.shows out.old) (O.shows out.new)) }
 
     // Where the words ask neither for a plan nor for a stock, nothing is written to the store.
@@ -71,11 +68,7 @@ pub fn run<R: Threads + Sync, S: Shelf, O: Sink>(
         (S.shows shelf.old) (S.shows shelf.new) (O.shows out.old) (O.shows out.new)) }
 
     // From bytes to bytes: where nothing of the outside failed and memory was enough.
-    ensures answers { Answers (map string_bytes words.now) (call_of result
-        (S.shows shelf.old) (S.shows shelf.new) (O.shows out.old) (O.shows out.new)) }
-    ensures completes { Completes (map string_bytes words.now) (call_of result
-        (S.shows shelf.old) (S.shows shelf.new) (O.shows out.old) (O.shows out.new)) }
-    ensures untaken { Untaken (map string_bytes words.now) (call_of result
+    ensures replies { Replies (map string_bytes words.now) (call_of result
         (S.shows shelf.old) (S.shows shelf.new) (O.shows out.old) (O.shows out.new)) }
 
     // What status 0 and status 3 of `verify` and of `rest` mean, and status 0 of `plan` and of `stock`.

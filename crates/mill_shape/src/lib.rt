@@ -14,6 +14,5 @@ mod solid;
 
 pub use height::cut_height;
 pub use laws::holds_over;
-pub use mill_base::{Cutter, Holder, Tool};
 pub use resize::{shrink, widen};
 pub use solid::inside;

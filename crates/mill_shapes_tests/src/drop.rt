@@ -1,10 +1,9 @@
 ghost use Rattle.std.specs.Prelude.{pos, IfOk};
 ghost use Rattle.mill_base.specs.Numbers.{Within};
-ghost use Rattle.mill_base.specs.Tools.{IsTool};
 ghost use Rattle.mill_base.specs.declared.limits.TheConstants.{MAX_COORDINATE};
 ghost use Rattle.mill_drop.specs.Paths.{IsRow, IsTolerance};
 
-use mill_base::{Box2, Cutter, Lattice, Pt3, Tool};
+use mill_base::{Box2, Cutter, LOWEST_LIFT, Lattice, MAX_COORDINATE, Pt3, Solid, Tool};
 use mill_crew::Threaded;
 use mill_drop::{
     DropCrew, drop_at, drop_heights_are_unique, drop_once, one_path, path_drop, paths_are_halved,
@@ -25,7 +24,6 @@ fn drops(
     y: i32,
     floor: i32,
 ) -> Result<(i32, i32), Fail>
-    requires tool_ok { IsTool held.now }
     requires x_ok { Within MAX_COORDINATE x }
     requires y_ok { Within MAX_COORDINATE y }
     requires floor_ok { Within MAX_COORDINATE floor }
@@ -46,18 +44,23 @@ fn place_over(text: &str) -> Result<(i32, i32, i32), Fail>
     Ok((coordinate(x)?, coordinate(y)?, coordinate(floor)?))
 }
 
-/// The drop heights of a row's text: of which tool, at which place, over which floor, and over which part.
-fn drops_of(alloc: Global, text: &str) -> Result<(i32, i32), Fail> {
-    let (held, others) = text.split_once(" at ").ok_or("a row without a place")?;
-    let (place, tris) = others.split_once(": ").ok_or("a row without a part")?;
+/// The drop heights of a tool by a text: at which place, over which floor, and over which part.
+fn drops_of(alloc: Global, held: &Tool, text: &str) -> Result<(i32, i32), Fail> {
+    let (place, tris) = text.split_once(": ").ok_or("a row without a part")?;
     let (x, y, floor) = place_over(place)?;
-    drops(alloc, tris, &tool(held)?, x, y, floor)
+    drops(alloc, tris, held, x, y, floor)
 }
 
 fn look<R: Abort + AllocGlobal>(rt: &R, row: &str) -> Result<(), Fail> {
     let (text, wanted) = halves(row)?;
+    let (held, text) = text.split_once(" at ").ok_or("a row without a place")?;
+    let held = tool(held)?;
     let height: i32 = wanted.parse()?;
-    assert_eq!(rt; drops_of(rt.alloc(), text)?, (height, height), "{row}");
+    assert_eq!(rt;
+        drops_of(rt.alloc(), &held, text)?,
+        (height, height),
+        "{row}"
+    );
     Ok(())
 }
 
@@ -113,6 +116,28 @@ fn holder_on_a_point(rt: HostRuntime) -> Result<(), Fail> {
     each_drop(&rt, HELD)
 }
 
+/// The drop heights at (0, 0) of a flat cutter whose tip is 4,300 under the tool's.
+fn sunk_drops(alloc: Global, tris: &str) -> Result<(i32, i32), Fail> {
+    let flat = Cutter::Flat { radius: 100 };
+    let sunk = Tool::bare(Solid::new(flat, LOWEST_LIFT));
+    drops(alloc, tris, &sunk, 0, 0, -(MAX_COORDINATE as i32))
+}
+
+fn look_at_sunk<R: Abort + AllocGlobal>(rt: &R, tris: &str, height: i32) -> Result<(), Fail> {
+    assert_eq!(rt; sunk_drops(rt.alloc(), tris)?, (height, height), "{tris}");
+    Ok(())
+}
+
+// The last point is the highest that there may be, and the one before it the lowest.
+#[test]
+fn cutter_under_its_tip(rt: HostRuntime) -> Result<(), Fail> {
+    look_at_sunk(&rt, "nothing", -524_287)?;
+    look_at_sunk(&rt, "100 0 300", -524_287)?;
+    look_at_sunk(&rt, "0 99 300", 4_600)?;
+    look_at_sunk(&rt, "0 0 -524287", -519_987)?;
+    look_at_sunk(&rt, "0 0 524287", 528_587)
+}
+
 const TRIANGLE: &str = "0 0 200, 1000 0 200, 0 1000 200";
 
 /// The heights of a flat cutter along a row that the step doesn't divide: at -200, -125, -50 and 0.
@@ -120,7 +145,7 @@ fn row_heights<R: Threads + Sync + AllocGlobal>(
     rt: &R,
     shape: &SortedPart,
 ) -> Result<Vec<i32>, Fail> {
-    let tool = Tool::bare(Cutter::Flat { radius: 100 });
+    let tool = Tool::bare(Solid::at_tip(Cutter::Flat { radius: 100 }));
     let lattice = Lattice {
         area: Box2 {
             x0: -200,
@@ -161,7 +186,7 @@ fn path(alloc: Global, shape: &SortedPart, x0: i32, x1: i32, tol: i32) -> Result
     requires row_ok { IsRow (pos 500) x0 x1 }
     requires tol_ok { IsTolerance tol }
 {
-    let tool = Tool::bare(Cutter::Flat { radius: 100 });
+    let tool = Tool::bare(Solid::at_tip(Cutter::Flat { radius: 100 }));
     let points = path_drop(alloc, shape, &tool, 500, x0, x1, 0, tol)?;
     told(alloc, &points)
 }

@@ -1,4 +1,4 @@
-use mill_base::Cutter;
+use mill_base::{Cutter, Solid};
 use mill_gouge::{clears, first_gouge};
 use mill_part::SortedPart;
 use mill_tables::{feed, halves, part_of};
@@ -31,7 +31,7 @@ fn number(word: &str) -> Result<Option<u32>, Fail> {
 fn look<R: Abort>(rt: &R, shape: &SortedPart, row: &str) -> Result<(), Fail> {
     let (along, wanted) = halves(row)?;
     let (along, post) = (feed(along)?, number(wanted)?);
-    let flat = Cutter::Flat { radius: 100 };
+    let flat = Solid::at_tip(Cutter::Flat { radius: 100 });
     let gouge = first_gouge(flat, shape, &along);
     let is_clear = clears(flat, shape, &along);
     let found = (gouge.map(|gouge| gouge.tri), is_clear);

@@ -9,8 +9,6 @@ mod drop;
 #[cfg(test)]
 mod gouge;
 #[cfg(test)]
-mod holder;
-#[cfg(test)]
 mod lift;
 #[cfg(test)]
 mod sweep;

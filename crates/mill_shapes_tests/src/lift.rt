@@ -1,5 +1,5 @@
 ghost use Rattle.mill_base.specs.Ranges.{MoveInRange};
-ghost use Rattle.mill_base.specs.Tools.{IsTool};
+ghost use Rattle.mill_gouge.specs.Lifts.{IsTipLowest};
 
 use mill_base::{Move, Tool};
 use mill_gouge::{has_room, least_lift};
@@ -26,7 +26,7 @@ flat 100 on 0 0 523988 to 0 0 0 => no room";
 
 /// The least lift, or `no room`.
 fn least(held: &Tool, shape: &SortedPart, along: &Move) -> Option<u32>
-    requires tool_ok { IsTool held.now }
+    requires tool_ok { IsTipLowest held.now }
     requires move_ok { MoveInRange along.now }
 {
     if !has_room(shape.part(), along) {

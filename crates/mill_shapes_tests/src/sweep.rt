@@ -1,32 +1,32 @@
 ghost use Rattle.mill_base.specs.Ranges.{IsInRange, MoveInRange, TriInRange};
-ghost use Rattle.mill_base.specs.Sizes.{IsCutter};
 
 use crate::tables::leaf;
-use mill_base::{Box2, Cutter, Move, Pt3, Tri};
-use mill_sweep::{Leaf, first_block, first_block_point, passes_point, passes_tri, reach_box};
-use mill_tables::{cutter, feed, halves, point, triangle};
+use mill_base::{Box2, Cutter, LOWEST_LIFT, MAX_COORDINATE, Move, Pt3, Solid, Tri};
+use mill_sweep::{
+    Leaf, Sweep, first_block, first_block_point, passes_point, passes_tri, reach_box,
+};
+use mill_tables::{cutter, feed, halves, number, point, triangle};
 use std::process::Abort;
 use std::test::Fail;
 
 mod leaves;
 
-/// Where something stops the cutter, and whether the cutter passes it.
-type Stop = (Option<Leaf>, bool);
+/// Where something stops the solid, by the call and by a sweep, and whether the solid passes it.
+type Stop = (Option<Leaf>, Option<Leaf>, bool);
 
-fn stop_at(cutter: Cutter, step: &Move, tri: &Tri) -> Stop
-    requires cutter_ok { IsCutter cutter }
+fn stop_at(solid: Solid, step: &Move, tri: &Tri) -> Stop
     requires move_ok { MoveInRange step.now }
     requires tri_ok { TriInRange tri.now }
 {
     (
-        first_block(cutter, step, tri),
-        passes_tri(cutter, step, tri),
+        first_block(solid, step, tri),
+        Sweep::new(solid, step).first_block(tri),
+        passes_tri(solid, step, tri),
     )
 }
 
 /// Where a point stops it, also as a triangle of three equal corners.
-fn stops_at_point(cutter: Cutter, step: &Move, point: Pt3) -> (Stop, Stop)
-    requires cutter_ok { IsCutter cutter }
+fn stops_at_point(solid: Solid, step: &Move, point: Pt3) -> (Stop, Stop)
     requires move_ok { MoveInRange step.now }
     requires point_ok { IsInRange point }
 {
@@ -35,35 +35,46 @@ fn stops_at_point(cutter: Cutter, step: &Move, point: Pt3) -> (Stop, Stop)
         b: point,
         c: point,
     };
-    let by_point = first_block_point(cutter, step, point);
-    let passes = passes_point(cutter, step, point);
-    ((by_point, passes), stop_at(cutter, step, &tri))
+    let by_point = (
+        first_block_point(solid, step, point),
+        Sweep::new(solid, step).first_block_point(point),
+        passes_point(solid, step, point),
+    );
+    (by_point, stop_at(solid, step, &tri))
 }
 
 /// Where a triangle by its corners stops it, or a point, in both ways.
-fn stops(cutter: Cutter, step: &Move, corners: &str) -> Result<(Stop, Stop), Fail>
-    requires cutter_ok { IsCutter cutter }
-    requires move_ok { MoveInRange step.now }
+fn stops(solid: Solid, step: &Move, corners: &str) -> Result<(Stop, Stop), Fail>
+    requires { MoveInRange step.now }
 {
     if !corners.contains(',') {
-        return Ok(stops_at_point(cutter, step, point(corners)?));
+        return Ok(stops_at_point(solid, step, point(corners)?));
     }
-    let stop = stop_at(cutter, step, &triangle(corners)?);
+    let stop = stop_at(solid, step, &triangle(corners)?);
     Ok((stop, stop))
+}
+
+/// A cutter with its tip at the tool's, or so much over it, as `flat 200 over 50`.
+fn solid(text: &str) -> Result<Solid, Fail> {
+    let Some((shape, lift)) = text.split_once(" over ") else {
+        return Ok(Solid::at_tip(cutter(text)?));
+    };
+    let lift = number(lift, LOWEST_LIFT, MAX_COORDINATE as i32)?;
+    Ok(Solid::new(cutter(shape)?, lift))
 }
 
 fn look<R: Abort>(rt: &R, row: &str) -> Result<(), Fail> {
     let (text, wanted) = halves(row)?;
     let (held, text) = text.split_once(" from ").ok_or("a row without a move")?;
     let (along, corners) = text.split_once(": ").ok_or("a row without a triangle")?;
-    let found = stops(cutter(held)?, &feed(along)?, corners)?;
+    let found = stops(solid(held)?, &feed(along)?, corners)?;
     let leaf = leaf(wanted)?;
-    let wanted = (leaf, leaf.is_none());
+    let wanted = (leaf, leaf, leaf.is_none());
     assert_eq!(rt; found, (wanted, wanted), "{row}");
     Ok(())
 }
 
-/// Looks at many moves: each row has the cutter, the move, a triangle or a point, and where that stops it.
+/// Looks at many moves: each row has the solid, the move, a triangle or a point, and where that stops it.
 fn each_move<R: Abort>(rt: &R, table: &str) -> Result<(), Fail> {
     for row in table.lines() {
         look(rt, row)?;
@@ -100,10 +111,38 @@ fn cutters_stop_at_a_point(rt: HostRuntime) -> Result<(), Fail> {
     each_move(&rt, POINTS)
 }
 
-// The ends' box, wider by the radius and 2, and the lower end; no further out than 524,287.
+// A plunge at the origin, with a flat of radius 200 whose face is 50 over the tip, as a holder's may be. It
+// passes a point at its radius and stops at one a unit nearer; it passes a point on its face at the end of
+// the plunge, at the lift over the tip, and stops at one a unit higher. So it does with its face as much
+// under the tip. A solid's tip that leaves the range upward is over everything.
+const LIFTED: &str = "\
+flat 200 over 50 from 0 0 1000 to 0 0 0: 200 0 500 => none
+flat 200 over 50 from 0 0 1000 to 0 0 0: 199 0 500 => 10 563
+flat 200 over 50 from 0 0 1000 to 0 0 0: -200 0 500 => none
+flat 200 over 50 from 0 0 1000 to 0 0 0: -199 0 500 => 10 563
+flat 200 over 50 from 0 0 1000 to 0 0 0: 0 0 49 => none
+flat 200 over 50 from 0 0 1000 to 0 0 0: 0 0 50 => none
+flat 200 over 50 from 0 0 1000 to 0 0 0: 0 0 51 => 10 1022
+flat 200 over -50 from 0 0 1000 to 0 0 0: 0 0 -50 => none
+flat 200 over -50 from 0 0 1000 to 0 0 0: 0 0 -49 => 10 1022
+flat 200 over 50 from 0 0 1000 to 0 0 0: 200 0 60, 300 0 60, 400 0 0 => none
+flat 200 over 50 from 0 0 1000 to 0 0 0: 199 0 60, 300 0 60, 400 0 0 => 10 1013
+flat 200 over 50 from 0 0 1000 to 0 0 0: 199 0 50, 300 0 50, 400 0 0 => none
+flat 10000 over 524287 from 0 0 524287 to 524287 0 524287: 0 0 524287 => none
+flat 10000 over 524287 from 0 0 524287 to 524287 0 524287: \
+    0 0 524287, 0 524287 524287, 524287 0 524287 => none";
+
+#[test]
+fn lifted_solids_stop_beside_and_under(rt: HostRuntime) -> Result<(), Fail> {
+    each_move(&rt, LIFTED)
+}
+
+// The ends' box, wider by the radius and 2, and the lower end of the solid's way; no further out than
+// 524,287.
 #[test]
 fn reach_is_the_box_of_the_ends(rt: HostRuntime) -> Result<(), Fail> {
     let flat = Cutter::Flat { radius: 150 };
+    let lifted = Solid::new(flat, 70);
     let wide = Box2 {
         x0: -52,
         y0: -352,
@@ -111,8 +150,8 @@ fn reach_is_the_box_of_the_ends(rt: HostRuntime) -> Result<(), Fail> {
         y1: 202,
     };
     assert_eq!(rt;
-        reach_box(flat, &feed("100 -200 400 to 300 50 20")?),
-        (wide, 20)
+        reach_box(lifted, &feed("100 -200 400 to 300 50 20")?),
+        (wide, 90)
     );
     let cut_off = Box2 {
         x0: -524_287,
@@ -121,7 +160,7 @@ fn reach_is_the_box_of_the_ends(rt: HostRuntime) -> Result<(), Fail> {
         y1: 524_287,
     };
     assert_eq!(rt;
-        reach_box(flat, &feed("-524287 524287 0 to 0 0 5")?),
+        reach_box(Solid::at_tip(flat), &feed("-524287 524287 0 to 0 0 5")?),
         (cut_off, 0)
     );
     Ok(())

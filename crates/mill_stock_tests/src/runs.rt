@@ -122,16 +122,15 @@ fn two_lines(alloc: Global) -> Result<String, Fail> {
 }
 
 /// Up to which move an uncut row goes over the first moves of a program.
-fn gone_over(alloc: Global, moves: &[Move], number: u64, count: u64) -> Result<u64, Fail>
+fn gone_over(alloc: Global, job: &Job, moves: &[Move], number: u64, count: u64) -> Result<u64, Fail>
     requires { MovesInRange moves.now }
 {
-    let job = job(alloc, "five")?;
     if number >= u64::from(job.rows()) || count == 0 || count > moves.len() as u64 {
         return Err(Fail::from("out of range"));
     }
     let bands = Bands::new(alloc, moves, count)?;
-    let mut row = Row::new(alloc, &job, number)?;
-    Ok(row.go_over(&job, &bands, 0))
+    let mut row = Row::new(alloc, job, number)?;
+    Ok(row.go_over(job, &bands, 0))
 }
 
 fn look_at_far<R: Abort + AllocGlobal>(rt: &R, moves: &[Move], row: &str) -> Result<(), Fail>
@@ -144,11 +143,9 @@ fn look_at_far<R: Abort + AllocGlobal>(rt: &R, moves: &[Move], row: &str) -> Res
         count.parse()?,
         wanted.parse()?,
     );
-    assert_eq!(rt;
-        gone_over(rt.alloc(), moves, number, count)?,
-        wanted,
-        "{row}"
-    );
+    let job = job(rt.alloc(), "five")?;
+    let gone = gone_over(rt.alloc(), &job, moves, number, count)?;
+    assert_eq!(rt; gone, wanted, "{row}");
     Ok(())
 }
 

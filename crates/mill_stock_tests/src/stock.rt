@@ -108,17 +108,17 @@ fn told_acts(alloc: Global, job: &Job, rows: &mut [Row], acts: &str) -> Result<S
     Ok(told)
 }
 
-/// Does the acts of a row on all rows of an uncut stock.
-fn told_of(alloc: Global, given: &str) -> Result<String, Fail> {
-    let (keys, acts) = given.split_once(" | ").ok_or("a row without acts")?;
-    let job = job(alloc, keys)?;
-    let mut rows = uncut_rows(alloc, &job)?;
-    told_acts(alloc, &job, &mut rows, acts)
+/// Does several acts on all rows of an uncut stock.
+fn told_of(alloc: Global, job: &Job, acts: &str) -> Result<String, Fail> {
+    let mut rows = uncut_rows(alloc, job)?;
+    told_acts(alloc, job, &mut rows, acts)
 }
 
 fn look<R: Abort + AllocGlobal>(rt: &R, row: &str) -> Result<(), Fail> {
     let (given, wanted) = halves(row)?;
-    same(rt, &told_of(rt.alloc(), given)?, wanted, row);
+    let (keys, acts) = given.split_once(" | ").ok_or("a row without acts")?;
+    let told = told_of(rt.alloc(), &job(rt.alloc(), keys)?, acts)?;
+    same(rt, &told, wanted, row);
     Ok(())
 }
 

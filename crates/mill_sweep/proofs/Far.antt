@@ -19,14 +19,13 @@ use Rattle.mill_shape.proofs.Holding.{holds_around}
 use Rattle.mill_sweep.specs.Lifted.{IsLiftedMove}
 use Rattle.mill_sweep.specs.Leaves.{depth_of, end_of, middle_of, lower_of, reach_of, span_of, outer_tip}
 use Rattle.mill_sweep.specs.Halving.{IsFree, LeafPasses, Passes, LiesBeside, middle_point}
-use Rattle.mill_sweep.specs.Moments.{FarPasses, IsFar}
+use Rattle.mill_sweep.specs.Moments.{IsFar}
 use Rattle.mill_sweep.specs.Apart.{IsUnderMove, LieOver, LieUnder, LieApart}
 use Rattle.mill_sweep.proofs.Halves.{left_place, right_place}
 use Rattle.mill_sweep.proofs.LeafCerts.{end_high, end_least, mean_most, mean_least, quotient_least, point_east, point_west, too_far_east, too_far_west}
 use Rattle.mill_sweep.proofs.Narrow.{reach_at_depth}
 use Rattle.mill_sweep.proofs.Passing.{radius_least}
 use Rattle.mill_sweep.proofs.Spans.{parts_twice}
-use Rattle.mill_sweep.proofs.Lifting.{in_lift}
 
 some : (n : ℕ) → 0 < n → (pos 0) <ℤ pos n
 some n h = omega (arith, ints)
@@ -222,6 +221,3 @@ beside_passes cutter move tri cutter_ok range (inr y) =
 pub lifted_far_passes : (cutter : Cutter) (move : Move) (tri : Tri) → IsCutter cutter → IsLiftedMove move → IsFar cutter move tri → Passes cutter move tri
 lifted_far_passes cutter move tri cutter_ok range (inl under) = under_passes cutter move tri under
 lifted_far_passes cutter move tri cutter_ok range (inr beside) = beside_passes cutter move tri cutter_ok range beside
-
-pub far_passes : FarPasses
-far_passes cutter move tri cutter_ok range = lifted_far_passes cutter move tri cutter_ok (in_lift move range)

@@ -18,12 +18,10 @@ use Rattle.mill_shape.proofs.Holding.{holds_over_tip}
 use Rattle.mill_sweep.specs.Lifted.{IsLiftedMove}
 use Rattle.mill_sweep.specs.Leaves.{depth_of, zlow_of, IsMomentOf}
 use Rattle.mill_sweep.specs.Halving.{IsFree, LeafPasses, Passes}
-use Rattle.mill_sweep.specs.Moments.{PassingIsClear}
 use Rattle.mill_sweep.proofs.LeafCerts.{half_from, half_to, point_under, over_low}
 use Rattle.mill_sweep.proofs.Outer.{low_over, lifted_outer_holds}
 use Rattle.mill_sweep.proofs.Passing.{radius_least}
 use Rattle.mill_sweep.proofs.Spans.{parts_twice}
-use Rattle.mill_sweep.proofs.Lifting.{in_lift}
 
 -- a moment of a leaf is one of its left half or one of its right half
 pub halves : (d j : ℕ) (k n : ℤ) → IsMomentOf d j k n → IsMomentOf (d + 1) (2 * j) k n ⊎ IsMomentOf (d + 1) (2 * j + 1) k n
@@ -118,6 +116,3 @@ leaf_is_clear cutter move tri (suc more) d j k m cutter_ok range deep less (inr 
 pub lifted_is_clear : (cutter : Cutter) (move : Move) (tri : Tri) (k m : ℤ) → IsCutter cutter → IsLiftedMove move → Passes cutter move tri → IsMoment k m → ¬ Touches cutter m (tip_at move k m) tri
 lifted_is_clear cutter move tri k m cutter_ok range passes moment touches =
     leaf_is_clear cutter move tri (depth_of move) 0 0 k m cutter_ok range (omega arith) (omega arith) passes (whole k m moment) touches
-
-pub passing_is_clear : PassingIsClear
-passing_is_clear cutter move tri k m cutter_ok range = lifted_is_clear cutter move tri k m cutter_ok (in_lift move range)

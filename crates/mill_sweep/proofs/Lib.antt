@@ -23,4 +23,4 @@ pub mod Passing
 mod UnscaledCerts
 mod Unscaled
 pub mod Vertical
-pub mod Holding
+pub mod Solids

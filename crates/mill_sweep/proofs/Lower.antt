@@ -11,13 +11,9 @@ use Rattle.mill_base.specs.declared.points.Pt3.{Pt3}
 use Rattle.mill_base.specs.declared.motion.Move.{Move}
 use Rattle.mill_base.specs.declared.cutter.Cutter.{Cutter}
 use Rattle.mill_base.specs.declared.cutter.Cutter.TheVariants.{Flat, Ball, Cone}
-use Rattle.mill_sweep.specs.Leaves.{depth_of}
 use Rattle.mill_sweep.specs.Halving.{Blocks, IsFree, LeafPasses}
-use Rattle.mill_sweep.specs.Moments.{PassingKeepsPoint}
 use Rattle.mill_sweep.specs.declared.leaf.Span.{Span}
-use Rattle.mill_sweep.proofs.Halves.{passing_is_clear}
 use Rattle.mill_sweep.proofs.LeafCerts.{mean_rises, ball_rises, cone_rises}
-use Rattle.mill_sweep.proofs.Passing.{itself}
 
 up : (a b c : ℤ) → a ≤ℤ b → b ≤ℤ c → a ≤ℤ c
 up a b c p q = omega (arith, ints)
@@ -79,10 +75,3 @@ module _ (x y t h : ℤ) (low : h ≤ℤ t) where
   passes_lower cutter move zero d k free = free_lower cutter move d k free
   passes_lower cutter move (suc more) d k (inl free) = inl (free_lower cutter move d k free)
   passes_lower cutter move (suc more) d k (inr both) = inr (passes_lower cutter move more (d + 1) (2 * k) both.0, passes_lower cutter move more (d + 1) (2 * k + 1) both.1)
-
-pub passing_keeps_point : PassingKeepsPoint
-passing_keeps_point cutter move x y t h cutter_ok range point_ok passes low removes =
-    passing_is_clear cutter move (point_tri (point_at x y h)) removes.k removes.m cutter_ok range
-    (passes_lower x y t h low cutter move (depth_of move) 0 0 passes)
-    removes.moment
-    (record { n = pos 1; p = point_at x y h; point = itself (point_at x y h); inside = removes.inside })

@@ -11,12 +11,10 @@ use Rattle.mill_base.specs.declared.limits.TheConstants.{MAX_LAST_REACH}
 use Rattle.mill_sweep.specs.Lifted.{IsLiftedMove}
 use Rattle.mill_sweep.specs.Leaves.{depth_of, end_of, middle_of, farther_of, diagonal_of, reach_of, span_of}
 use Rattle.mill_sweep.specs.Halving.{Blocks, FailsAt, IsFree, LeafPasses, LeadsTo}
-use Rattle.mill_sweep.specs.Moments.{FailingIsBlocked}
 use Rattle.mill_sweep.specs.declared.leaf.Leaf.{Leaf}
 use Rattle.mill_sweep.proofs.Depths.{lengths_at_depth}
 use Rattle.mill_sweep.proofs.LeafCerts.{near_high, near_low, near_high_last, near_low_last}
 use Rattle.mill_sweep.proofs.Spans.{parts_twice, div_ceil_most}
-use Rattle.mill_sweep.proofs.Lifting.{in_lift}
 
 -- the leaf to which the failing halves lead: at this depth, and not free
 record Fails (cutter : Cutter) (move : Move) (tri : Tri) (bottom : ℕ) (leaf : Leaf) : Type 0 where
@@ -90,6 +88,3 @@ lifted_is_blocked cutter move tri leaf range h =
   where
     bottom : leaf.d ≡ 0 + depth_of move → leaf.d ≡ depth_of move
     bottom e = omega arith
-
-pub failing_is_blocked : FailingIsBlocked
-failing_is_blocked cutter move tri leaf cutter_ok range h = lifted_is_blocked cutter move tri leaf (in_lift move range) h

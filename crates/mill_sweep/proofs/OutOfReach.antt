@@ -17,11 +17,10 @@ use Rattle.mill_sweep.specs.Lifted.{IsLiftedMove}
 use Rattle.mill_sweep.specs.Apart.{LieApart}
 use Rattle.mill_sweep.specs.Halving.{Passes}
 use Rattle.mill_sweep.specs.Moments.{IsFar}
-use Rattle.mill_sweep.specs.Reach.{margin_of, low_side_of, high_side_of, reach_box_of, low_end_of, IsOutOfReach, OutOfReachPasses}
+use Rattle.mill_sweep.specs.Reach.{margin_of, low_side_of, high_side_of, reach_box_of, low_end_of, IsOutOfReach}
 use Rattle.mill_sweep.proofs.Far.{lifted_far_passes}
 use Rattle.mill_sweep.proofs.Passing.{radius_least}
 use Rattle.mill_sweep.proofs.Sides.{least_of, most_of, ends_of, joined, split, wide}
-use Rattle.mill_sweep.proofs.Lifting.{in_lift}
 
 -- some place is in both stretches
 record HasCommon (low high from to : ℤ) : Type 0 where
@@ -148,6 +147,3 @@ lifted_out_of_reach cutter m tri ok ranged inside out = elim out [
   ]
   | inr low ↦ low_passes cutter m tri ok ranged low
 ]
-
-pub out_of_reach_passes : OutOfReachPasses
-out_of_reach_passes cutter m tri ok range = lifted_out_of_reach cutter m tri ok (in_lift m range)

@@ -9,7 +9,7 @@ use Rattle.mill_base.specs.Sizes.{HasRadius, IsCutter, radius_of, outer, shift}
 use Rattle.mill_base.specs.declared.points.Pt3.{Pt3}
 use Rattle.mill_base.specs.declared.cutter.Cutter.{Cutter}
 use Rattle.mill_base.specs.declared.cutter.Cutter.TheVariants.{Flat, Ball, Cone}
-use Rattle.mill_base.specs.declared.limits.TheConstants.{LOWEST_TIP, MAX_COORDINATE, MAX_REACH, MAX_LAST_REACH}
+use Rattle.mill_base.specs.declared.limits.TheConstants.{LOWEST_LIFT, LOWEST_TIP, MAX_COORDINATE, MAX_REACH, MAX_LAST_REACH}
 use Rattle.mill_geom.specs.Offsets.{IsCentre}
 use Rattle.mill_sweep.specs.Leaves.{outer_tip}
 use Rattle.mill_sweep.specs.Halving.{IsSpan}
@@ -63,7 +63,7 @@ module _ (s : Span) (low : ℤ) (ok : IsSpan s) (low_least : (pos 0) ≤ℤ low)
     z_to = subst (λ (z : ℤ). z ≤ℤ pos MAX_COORDINATE) (sym drop_is) (to s.zlow low h low_least under most);
   }
     where
-      from : (z l : ℤ) → (pos 0 -ℤ pos MAX_COORDINATE) ≤ℤ z → l ≤ℤ pos (16 * MAX_REACH) → LOWEST_TIP ≤ℤ (z -ℤ l)
+      from : (z l : ℤ) → (LOWEST_LIFT -ℤ pos MAX_COORDINATE) ≤ℤ z → l ≤ℤ pos (16 * MAX_REACH) → LOWEST_TIP ≤ℤ (z -ℤ l)
       from z l p q = omega (arith, ints)
 
       to : (z l h : ℤ) → (pos 0) ≤ℤ l → z <ℤ h → h ≤ℤ pos MAX_COORDINATE → (z -ℤ l) ≤ℤ pos MAX_COORDINATE

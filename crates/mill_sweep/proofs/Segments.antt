@@ -8,7 +8,7 @@ use Rattle.mill_base.specs.Sizes.{IsCutter, radius_of}
 use Rattle.mill_base.specs.declared.points.Tri.{Tri}
 use Rattle.mill_base.specs.declared.motion.Move.{Move}
 use Rattle.mill_base.specs.declared.cutter.Cutter.{Cutter}
-use Rattle.mill_base.specs.declared.limits.TheConstants.{MAX_COORDINATE, MAX_LAST_REACH}
+use Rattle.mill_base.specs.declared.limits.TheConstants.{LOWEST_LIFT, MAX_COORDINATE, MAX_LAST_REACH}
 use Rattle.mill_sweep.specs.Lifted.{IsLiftedMove, IsTipHeight}
 use Rattle.mill_sweep.specs.Apart.{LieApart}
 use Rattle.mill_sweep.specs.Leaves.{span_of, lower_of, zlow_of, farther_of, diagonal_of, reach_of}
@@ -65,7 +65,7 @@ module _ (cutter : Cutter) (move : Move) (tri : Tri) (d k : ℕ) where
 -- the lower end of a leaf is as high as a tip may be
 pub lower_height : (f t : ℤ) (d k : ℕ) → IsTipHeight f → IsTipHeight t → k < 2 ^ d → IsTipHeight (lower_of f t d k)
 lower_height f t d k f_ok t_ok inside = record {
-  least = lower_least f t (pos 0 -ℤ pos MAX_COORDINATE) d k inside f_ok.least t_ok.least;
+  least = lower_least f t (LOWEST_LIFT -ℤ pos MAX_COORDINATE) d k inside f_ok.least t_ok.least;
   within = lower_within f t d k highest_tip f_ok.within t_ok.within inside;
 }
 

@@ -1,15 +1,15 @@
--- Moves of a tip, a cutter's or its holder's: a holder's tip is over the cutter's, and so its moves may leave the range of coordinates upward.
+-- Moves of a solid's tip, which is over the tool's or under it: so its moves may leave the range of coordinates.
 use Rattle.std.specs.Prelude.{◌≤◌, ℤ, nat_abs, pos, ◌-ℤ◌, ◌≤ℤ◌}
 use Rattle.mill_base.specs.Numbers.{Within}
-use Rattle.mill_base.specs.declared.limits.TheConstants.{MAX_COORDINATE}
+use Rattle.mill_base.specs.declared.limits.TheConstants.{LOWEST_LIFT, MAX_COORDINATE}
 use Rattle.mill_base.specs.declared.points.Pt3.{Pt3}
 use Rattle.mill_base.specs.declared.motion.Move.{Move}
 use Rattle.mill_sweep.specs.Leaves.{length_z}
 use Rattle.mill_sweep.specs.Widths.{longest, highest_tip}
 
--- a height is no lower than a coordinate may be, and at most twice as high as one
+-- a height is no lower than a coordinate may be and the lowest lift, and at most twice as high as a coordinate
 pub record IsTipHeight (z : ℤ) : Type 0 where
-  pub least : (pos 0 -ℤ pos MAX_COORDINATE) ≤ℤ z
+  pub least : (LOWEST_LIFT -ℤ pos MAX_COORDINATE) ≤ℤ z
   pub within : nat_abs z ≤ highest_tip
 
 -- so is a point's, which is in range in x and in y

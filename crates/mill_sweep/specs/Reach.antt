@@ -3,14 +3,15 @@ use Rattle.std.specs.Prelude.{◌⊎◌, ℤ, pos, ◌+ℤ◌, ◌-ℤ◌, ◌�
 use Rattle.mill_base.specs.Numbers.{lesser, greater}
 use Rattle.mill_base.specs.Points.{highest}
 use Rattle.mill_base.specs.Ranges.{MoveInRange, TriInRange}
-use Rattle.mill_base.specs.Sizes.{IsCutter, radius_of}
+use Rattle.mill_base.specs.Sizes.{radius_of}
+use Rattle.mill_base.specs.Solids.{IsSolid, Solid, lifted}
 use Rattle.mill_base.specs.declared.points.Box2.{Box2}
 use Rattle.mill_base.specs.declared.points.Tri.{Tri}
 use Rattle.mill_base.specs.declared.motion.Move.{Move}
 use Rattle.mill_base.specs.declared.cutter.Cutter.{Cutter}
 use Rattle.mill_base.specs.declared.limits.TheConstants.{MAX_COORDINATE, MAX_LAST_REACH}
 use Rattle.mill_cells.specs.Boxes.{box_of, Meet}
-use Rattle.mill_sweep.specs.Halving.{Passes}
+use Rattle.mill_sweep.specs.Solids.{SolidPasses}
 
 -- how far from the move a triangle may lie and still block it: nearer than the radius and the last reach
 abbrev pub margin_of : Cutter → ℤ
@@ -40,6 +41,7 @@ low_end_of m = lesser m.from.z m.to.z
 abbrev pub IsOutOfReach : Cutter → Move → Tri → Type 0
 IsOutOfReach cutter m tri = (¬ Meet (box_of tri) (reach_box_of cutter m)) ⊎ (highest tri ≤ℤ low_end_of m)
 
--- a move passes each triangle that is out of its reach
+-- a solid passes each triangle that is out of reach on the move of its own tip
 abbrev pub OutOfReachPasses : Type 0
-OutOfReachPasses = (cutter : Cutter) (move : Move) (tri : Tri) → IsCutter cutter → MoveInRange move → TriInRange tri → IsOutOfReach cutter move tri → Passes cutter move tri
+OutOfReachPasses = (solid : Solid) (move : Move) (tri : Tri) → IsSolid solid → MoveInRange move → TriInRange tri → IsOutOfReach solid.cutter (lifted solid move) tri
+    → SolidPasses solid move tri

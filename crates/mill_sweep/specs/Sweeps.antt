@@ -14,12 +14,12 @@ use Rattle.mill_sweep.specs.declared.leaf_span.Stretch.{Stretch}
 use Rattle.mill_sweep.specs.declared.sweep.Prepared.{Prepared}
 use Rattle.mill_sweep.specs.Widths.{longest}
 
--- a cutter on a move, or a holder's solid on the move of its own tip
+-- a solid's cutter, on the move of its own tip
 pub record Swept : Type 0 where
   pub cutter : Cutter
   pub move : Move
 
--- a job's cutter, or a holder's solid, and a move of its tip, with the move's depth and where the whole of it lies
+-- a solid's cutter and a move of its tip, with the move's depth and where the whole of it lies
 pub record IsPrepared (p : Prepared) : Type 0 where
   pub cutter_ok : IsCutter p.cutter
   pub move_ok : IsLiftedMove p.step

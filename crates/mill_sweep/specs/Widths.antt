@@ -14,7 +14,7 @@ end_depth = MAX_DEPTH + 1
 abbrev pub farthest_end : ℕ
 farthest_end = 2 ^ end_depth * MAX_COORDINATE
 
--- how far from 0 the tip of a holder is in z: over the cutter's tip by at most as much as a coordinate
+-- how far from 0 the tip of a solid is in z: over the tool's tip by at most as much as a coordinate
 abbrev pub highest_tip : ℕ
 highest_tip = 2 * MAX_COORDINATE
 

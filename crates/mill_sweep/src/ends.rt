@@ -47,7 +47,7 @@ pub fn end_at(from: i32, to: i32, d: u32, k: u64) -> i64
     tip_end_at(from, to, d, k)
 }
 
-/// The same of a tip that may be a holder's, which may be twice as high as coordinates go.
+/// The same of a solid's tip, which may be twice as high as coordinates go.
 fn tip_end_at(from: i32, to: i32, d: u32, k: u64) -> i64
     requires from_ok { Within highest_tip from }
     requires to_ok { Within highest_tip to }

@@ -3,61 +3,63 @@ ghost use Rattle.mill_base.specs.Points.{point_tri};
 ghost use Rattle.mill_base.specs.Ranges.{IsInRange, MoveInRange, TriInRange};
 ghost use Rattle.mill_base.specs.Sizes.{IsCutter};
 ghost use Rattle.mill_base.specs.declared.limits.TheConstants.{MAX_REACH, MAX_DEPTH};
-ghost use Rattle.mill_sweep.specs.Halving.{Blocks, FailsAt, FailsUnder, IsFreeSpan, LeafPasses, Passes, PassesPoint};
+ghost use Rattle.mill_sweep.specs.Halving.{Blocks, FailsAt, FailsUnder, IsFreeSpan, LeafPasses, Passes};
 ghost use Rattle.mill_sweep.specs.Leaves.{depth_of, span_of};
 ghost use Rattle.mill_sweep.specs.Lifted.{IsLiftedMove};
+ghost use Rattle.mill_sweep.specs.Solids.{SolidFailsAt, SolidIsBlocked, SolidPasses, SolidPassesPoint};
 ghost use Rattle.mill_sweep.specs.Sweeps.{IsPrepared, PassesDown};
 
 use crate::beside::{is_beside_in_x, is_beside_in_y, is_beside_move};
 use crate::leaf::Leaf;
 use crate::leaf_span::{low_end, stretch_in_x, stretch_in_y};
 use crate::leaf_test::{is_free, is_free_by, is_no_higher};
+use crate::solid::lift;
 use crate::sweep::{Prepared, prepare};
-use mill_base::{Cutter, Move, Pt3, Tri};
+use mill_base::{Cutter, Move, Pt3, Solid, Tri};
 
-/// Whether the move passes the triangle: halved as often as its depth says, it has no leaf that the
-/// triangle blocks.
+/// Whether the solid passes the triangle on the move: halved as often as its depth says, the move
+/// of its tip has no leaf that the triangle blocks.
 ///
-/// A move that passes holds no point of the triangle strictly inside the cutter at any moment. One
-/// that doesn't comes so near to it that the outer cutter of a leaf, which is at most 2 wider, holds
-/// a point of the triangle. Lengths are in units; coordinates go from -524,287 to 524,287.
-pub fn passes_tri(cutter: Cutter, step: &Move, tri: &Tri) -> bool
-    requires cutter_ok { IsCutter cutter }
+/// A solid that passes holds no point of the triangle strictly inside at any moment. One that
+/// doesn't comes so near to it that the outer cutter of a leaf, which is at most 2 wider, holds a
+/// point of the triangle. Lengths are in units; coordinates go from -524,287 to 524,287, and the
+/// solid's tip may leave that range by its lift.
+pub fn passes_tri(solid: Solid, step: &Move, tri: &Tri) -> bool
     requires move_ok { MoveInRange step.now }
     requires tri_ok { TriInRange tri.now }
-    ensures yes { IsTrue result → Passes cutter step.now tri.now }
-    ensures no { result ≡ false → ¬ Passes cutter step.now tri.now }
+    ensures yes { IsTrue result → SolidPasses solid step.now tri.now }
+    ensures no { result ≡ false → ¬ SolidPasses solid step.now tri.now }
 {
-    first_block(cutter, step, tri).is_none()
+    first_block(solid, step, tri).is_none()
 }
 
-/// Whether the move passes the point, which is a triangle of three equal corners.
-pub fn passes_point(cutter: Cutter, step: &Move, point: Pt3) -> bool
-    requires cutter_ok { IsCutter cutter }
+/// Whether the solid passes the point, which is a triangle of three equal corners.
+pub fn passes_point(solid: Solid, step: &Move, point: Pt3) -> bool
     requires move_ok { MoveInRange step.now }
     requires point_ok { IsInRange point }
-    ensures yes { IsTrue result → PassesPoint cutter step.now point }
-    ensures no { result ≡ false → ¬ PassesPoint cutter step.now point }
+    ensures yes { IsTrue result → SolidPassesPoint solid step.now point }
+    ensures no { result ≡ false → ¬ SolidPassesPoint solid step.now point }
 {
-    passes_tri(cutter, step, &triangle_at(point))
+    passes_tri(solid, step, &triangle_at(point))
 }
 
-/// The leaf at which the move fails to pass the triangle, none exactly where the move passes.
+/// The leaf of the move at which the solid fails to pass the triangle, none exactly where it
+/// passes.
 ///
-/// Halving from the whole move on leads to this leaf, each time by the first half that doesn't pass,
-/// and the triangle blocks it. Where many triangles are tried against one move, a `Sweep` of it does
-/// the same with less work for each.
-pub fn first_block(cutter: Cutter, step: &Move, tri: &Tri) -> Option<Leaf>
-    requires cutter_ok { IsCutter cutter }
+/// Halving from the whole move on leads to this leaf, each time by the first half that doesn't
+/// pass, and the triangle blocks it. A leaf of the solid's way is one of the tool's, since both are
+/// halved at the same moments. Where many triangles are tried against one move, a `Sweep` of it
+/// does the same with less work for each.
+pub fn first_block(solid: Solid, step: &Move, tri: &Tri) -> Option<Leaf>
     requires move_ok { MoveInRange step.now }
     requires tri_ok { TriInRange tri.now }
-    ensures { MatchOption result (Passes cutter step.now tri.now) (λ leaf. FailsAt cutter step.now tri.now leaf × Blocks cutter (span_of step.now leaf.d leaf.k) tri.now) }
+    ensures { MatchOption result (SolidPasses solid step.now tri.now) (λ leaf. SolidFailsAt solid step.now tri.now leaf × SolidIsBlocked solid step.now tri.now leaf) }
 {
-    first_of_tip(cutter, step, tri)
+    first_of_tip(solid.cutter(), &lift(solid, step), tri)
 }
 
-/// The same of a move of a tip that may be a holder's.
-pub(crate) fn first_of_tip(cutter: Cutter, step: &Move, tri: &Tri) -> Option<Leaf>
+/// The same of a cutter and a move of its own tip.
+fn first_of_tip(cutter: Cutter, step: &Move, tri: &Tri) -> Option<Leaf>
     requires cutter_ok { IsCutter cutter }
     requires move_ok { IsLiftedMove step.now }
     requires tri_ok { TriInRange tri.now }
@@ -69,14 +71,13 @@ pub(crate) fn first_of_tip(cutter: Cutter, step: &Move, tri: &Tri) -> Option<Lea
     first_halved(&prepare(cutter, step), tri)
 }
 
-/// The leaf at which the move fails to pass the point, none exactly where the move passes.
-pub fn first_block_point(cutter: Cutter, step: &Move, point: Pt3) -> Option<Leaf>
-    requires cutter_ok { IsCutter cutter }
+/// The leaf at which the solid fails to pass the point, none exactly where it passes.
+pub fn first_block_point(solid: Solid, step: &Move, point: Pt3) -> Option<Leaf>
     requires move_ok { MoveInRange step.now }
     requires point_ok { IsInRange point }
-    ensures { MatchOption result (PassesPoint cutter step.now point) (λ leaf. FailsAt cutter step.now (point_tri point) leaf × Blocks cutter (span_of step.now leaf.d leaf.k) (point_tri point)) }
+    ensures { MatchOption result (SolidPassesPoint solid step.now point) (λ leaf. SolidFailsAt solid step.now (point_tri point) leaf × SolidIsBlocked solid step.now (point_tri point) leaf) }
 {
-    first_block(cutter, step, &triangle_at(point))
+    first_block(solid, step, &triangle_at(point))
 }
 
 /// The leaf at which a move that is ready fails to pass the triangle, none exactly where it passes.

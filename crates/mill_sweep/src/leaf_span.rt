@@ -29,7 +29,7 @@ pub fn span(step: &Move, leaf: Leaf) -> Span
     span_of_tip(step, leaf)
 }
 
-/// The same of a move of a tip that may be a holder's.
+/// The same of a move of a solid's tip.
 pub(crate) fn span_of_tip(step: &Move, leaf: Leaf) -> Span
     requires move_ok { IsLiftedMove step.now }
     requires d_ok { leaf.d ≤ depth_of step.now }

@@ -66,7 +66,7 @@ pub(crate) fn is_free_by(cutter: Cutter, x: Stretch, y: Stretch, zlow: i32, tri:
 /// Whether some point of the triangle is strictly inside the outer cutter of a leaf, where a corner
 /// of the triangle is higher than it.
 ///
-/// So the leaf is in range, though the tip may be a holder's and leave the range upward.
+/// So the leaf is in range upward, though a solid's tip may leave the range.
 fn outer_holds_some(cutter: Cutter, span: Span, tri: &Tri) -> bool
     requires cutter_ok { IsCutter cutter }
     requires span_ok { IsSpan span }

@@ -1,11 +1,11 @@
-//! Which moves pass a triangle or a point at every moment, by halving the move into leaves.
+//! Which solids of a tool pass a triangle or a point at every moment of a move, by halving the move
+//! into leaves.
 //!
-//! It stands on `mill_base`, `mill_shape` and the contact crates, and says by mill_cells when
-//! boxes meet. `passes_tri` is so exactly where the halving says (`specs/Leaves`,
-//! `specs/Halving`); passing means that nothing is inside at any moment (`specs/Moments`), and a
-//! failing leaf has a reach of at most 2 units, and is blocked. `holder_passes_tri` and
-//! `holder_block` promise the same of a holder (`specs/Holders`). `reach_box` says which triangles
-//! need to be tried at all (`specs/Reach`).
+//! It stands on `mill_base`, `mill_shape` and the contact crates, and says by mill_cells when boxes
+//! meet. `passes_tri` is so exactly where the halving says (`specs/Leaves`, `specs/Halving`), for a
+//! solid on the move of its own tip (`specs/Solids`); passing means that nothing is inside at any
+//! moment (`specs/Moments`), and a failing leaf has a reach of at most 2 units, and is blocked.
+//! `reach_box` says which triangles need to be tried at all (`specs/Reach`).
 #![tactic(auto)]
 
 mod beside;
@@ -14,22 +14,18 @@ mod diagonal;
 mod ends;
 mod gap;
 mod halving;
-mod holder;
 mod leaf;
 mod leaf_span;
 mod leaf_test;
 mod moments;
 mod move_depth;
 mod reach;
+mod solid;
 mod sweep;
 
 pub use contact::holds_some;
 pub use ends::{end_at, nearest};
 pub use halving::{first_block, first_block_point, passes_point, passes_tri};
-pub use holder::{
-    holder_block, holder_failing_is_blocked, holder_is_clear, holder_keeps_point,
-    holder_out_of_reach_passes, holder_passes_point, holder_passes_tri,
-};
 pub use leaf::{Leaf, Span};
 pub use leaf_span::span;
 pub use moments::{

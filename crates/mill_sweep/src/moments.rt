@@ -7,19 +7,20 @@ pub fn outer_holds()
     ensures { OuterHolds }
 {}
 
-/// A law: a move that passes a triangle never holds a point of it strictly inside the cutter, at any
-/// moment of the move.
+/// A law: a solid that passes a triangle on a move never holds a point of it strictly inside, at
+/// any moment of the move.
 pub fn halving_is_clear()
     ensures { PassingIsClear }
 {}
 
-/// A law: a move that passes a point removes no whole point at or under it.
+/// A law: a solid that passes a point on a move holds no whole point at or under it strictly
+/// inside, at any moment of the move.
 pub fn halving_keeps_point()
     ensures { PassingKeepsPoint }
 {}
 
-/// A law: a move passes each triangle that is no higher than both its ends or that lies at least the
-/// cutter's radius and 2 away from it in x or in y.
+/// A law: a solid passes each triangle that is no higher than both ends of its tip's move, or that
+/// lies at least the solid's radius and 2 away from the move in x or in y.
 pub fn far_passes()
     ensures { FarPasses }
 {}

@@ -3,29 +3,46 @@ ghost use Rattle.mill_base.specs.Numbers.{Within};
 ghost use Rattle.mill_base.specs.declared.limits.TheConstants.{MAX_COORDINATE};
 ghost use Rattle.mill_base.specs.Ranges.{MoveInRange};
 ghost use Rattle.mill_base.specs.Sizes.{IsCutter};
+ghost use Rattle.mill_base.specs.Solids.{lifted};
 ghost use Rattle.mill_sweep.specs.Reach.{OutOfReachPasses, reach_box_of, low_end_of, margin_of, low_side_of, high_side_of};
 
-use mill_base::{Box2, Cutter, MAX_COORDINATE, MAX_LAST_REACH, Move};
+use mill_base::{Box2, Cutter, MAX_COORDINATE, MAX_LAST_REACH, Move, Solid};
 
-/// The box about a move in x and y that a triangle must meet to block it, and the height of the
-/// move's lower end, which it must come over.
+/// The box about a move in x and y that a triangle must meet to block the solid on it, and the
+/// height of the lower end of the solid's way, which it must come over.
 ///
-/// The box is that of the move's two ends, wider on each side by the cutter's radius and 2, and cut
+/// The box is that of the move's two ends, wider on each side by the solid's radius and 2, and cut
 /// off at a magnitude of 524,287, since no triangle reaches further. Lengths are in units.
-pub fn reach_box(cutter: Cutter, step: &Move) -> (Box2, i32)
-    requires cutter_ok { IsCutter cutter }
-    requires move_ok { MoveInRange step.now }
-    ensures area { result.0 ≡ reach_box_of cutter step.now }
-    ensures low { result.1 ≡ low_end_of step.now }
+pub fn reach_box(solid: Solid, step: &Move) -> (Box2, i32)
+    requires { MoveInRange step.now }
+    ensures area { result.0 ≡ reach_box_of solid.cutter step.now }
+    ensures low { result.1 ≡ low_end_of (lifted solid step.now) }
 {
-    (area_about(cutter, step), step.from.z.min(step.to.z))
+    (area_about(solid.cutter(), step), way_end(solid, step))
 }
 
-/// A law: a move passes each triangle in range whose box doesn't meet the box that `reach_box`
+/// A law: a solid passes each triangle in range whose box doesn't meet the box that `reach_box`
 /// gives, or whose highest point isn't over its height.
 pub fn out_of_reach_passes()
     ensures { OutOfReachPasses }
 {}
+
+/// The height of the lower end of the solid's way.
+fn way_end(solid: Solid, step: &Move) -> i32
+    requires { MoveInRange step.now }
+    ensures { result ≡ low_end_of (lifted solid step.now) }
+{
+    lower_end(step) + solid.lift()
+}
+
+/// The height of the move's lower end.
+fn lower_end(step: &Move) -> i32
+    requires { MoveInRange step.now }
+    ensures value { result ≡ low_end_of step.now }
+    ensures bound { Within MAX_COORDINATE result }
+{
+    step.from.z.min(step.to.z)
+}
 
 /// The box of the move's two ends in x and y, wider by the margin and cut off.
 fn area_about(cutter: Cutter, step: &Move) -> Box2

@@ -2,25 +2,23 @@ ghost use Rattle.std.specs.Prelude.{◌≡◌, MatchOption};
 ghost use Rattle.mill_base.specs.Points.{point_tri};
 ghost use Rattle.mill_base.specs.Ranges.{IsInRange, MoveInRange, TriInRange};
 ghost use Rattle.mill_base.specs.Sizes.{IsCutter};
+ghost use Rattle.mill_base.specs.Solids.{lifted};
 ghost use Rattle.mill_sweep.specs.Halving.{Blocks, FailsAt, Passes, PassesPoint};
-ghost use Rattle.mill_base.specs.Tools.{IsHolder, solid_of};
-ghost use Rattle.mill_sweep.specs.Holders.{lifted};
 ghost use Rattle.mill_sweep.specs.Leaves.{span_of};
 ghost use Rattle.mill_sweep.specs.Lifted.{IsLiftedMove};
 ghost use Rattle.mill_sweep.specs.Sweeps.{IsPrepared};
 
 use crate::halving::{first_on, triangle_at};
-use crate::holder::lift;
 use crate::leaf::{Leaf, Span};
 use crate::leaf_span::span_of_tip;
 use crate::move_depth::depth;
-use mill_base::{Cutter, Holder, Move, Pt3, Tri};
+use crate::solid::lift;
+use mill_base::{Cutter, Move, Pt3, Solid, Tri};
 use std::marker::Model;
 
-/// A cutter and a move of it, or a holder's solid and the move of its own tip, made ready to be tried
-/// against many triangles.
+/// A solid on a move, made ready to be tried against many triangles.
 ///
-/// A contract sees the two.
+/// A contract sees the solid's cutter and the move of its tip.
 #[derive(Drop)]
 pub struct Sweep {
     prepared: Prepared,
@@ -37,25 +35,13 @@ impl Model for Sweep {
 }
 
 impl Sweep {
-    /// The cutter on the move.
-    pub fn new(cutter: Cutter, step: &Move) -> Sweep
-        requires cutter_ok { IsCutter cutter }
-        requires move_ok { MoveInRange step.now }
-        ensures { result ≡ record { cutter = cutter; move = step.now } }
+    /// The solid on the tool's move.
+    pub fn new(solid: Solid, step: &Move) -> Sweep
+        requires { MoveInRange step.now }
+        ensures { result ≡ record { cutter = solid.cutter; move = lifted solid step.now } }
     {
         Sweep {
-            prepared: prepare(cutter, step),
-        }
-    }
-
-    /// The holder on the move of the cutter under it: its solid, on the move of its own tip.
-    pub fn of_holder(holder: &Holder, step: &Move) -> Sweep
-        requires holder_ok { IsHolder holder.now }
-        requires move_ok { MoveInRange step.now }
-        ensures { result ≡ record { cutter = solid_of holder.now; move = lifted holder.now step.now } }
-    {
-        Sweep {
-            prepared: prepare(holder.solid(), &lift(holder, step)),
+            prepared: prepare(solid.cutter(), &lift(solid, step)),
         }
     }
 

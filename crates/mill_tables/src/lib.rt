@@ -7,7 +7,7 @@
 //!
 //! It stands on mill_base, mill_geom, mill_part and mill_job, and no program uses it. What a reader
 //! gives is in the range that its contract names, or the row is refused with a `Fail`. Definitions:
-//! those of the crates below.
+//! `CutsAt` and `Replaced` of a text (specs/Rows.antt), and those of the crates below.
 #![tactic(auto)]
 
 mod jobs;

@@ -1,6 +1,7 @@
 //! Moves.
-ghost use Rattle.std.specs.Prelude.{IfOk, IsTrue};
+ghost use Rattle.std.specs.Prelude.{◌≡◌, ◌↔◌, IfOk, IsTrue, codes};
 ghost use Rattle.mill_base.specs.Ranges.{MoveInRange, MovesInRange};
+ghost use Rattle.mill_base.specs.declared.motion.Kind.TheVariants.{Rapid};
 
 use crate::points::{fits, point};
 use crate::words::first_word;
@@ -9,7 +10,9 @@ use std::alloc::Global;
 use std::test::Fail;
 
 /// A rapid by its word; any other is a feed.
-pub fn kind(word: &str) -> Kind {
+pub fn kind(word: &str) -> Kind
+    ensures { (result ≡ Rapid) ↔ (word.now ≡ codes "rapid") }
+{
     if word == "rapid" {
         Kind::Rapid
     } else {

@@ -1,5 +1,5 @@
 //! Parts of a few triangles.
-ghost use Rattle.std.specs.Prelude.{IfOk, IsTrue};
+ghost use Rattle.std.specs.Prelude.{◌≤◌, IfOk, IsTrue, length};
 ghost use Rattle.mill_base.specs.Covers.{IsUnder};
 ghost use Rattle.mill_base.specs.Ranges.{TriInRange};
 
@@ -28,7 +28,9 @@ fn triangles(alloc: Global, text: &str) -> Result<Vec<Tri>, Fail> {
 }
 
 /// The part of these triangles, not sorted yet.
-fn unsorted(alloc: Global, text: &str) -> Result<Part, Fail> {
+fn unsorted(alloc: Global, text: &str) -> Result<Part, Fail>
+    ensures { IfOk result (λ part. length part ≤ 9) }
+{
     let tris = triangles(alloc, text)?;
     if tris.len() > 9 || !tris.iter().all(tri_fits) {
         return Err(Fail::from("too many triangles"));
@@ -38,7 +40,9 @@ fn unsorted(alloc: Global, text: &str) -> Result<Part, Fail> {
 
 /// The part of a few triangles by their `corners`, with a semicolon between them, or of `nothing`.
 /// More than nine triangles are refused.
-pub fn part_of(alloc: Global, text: &str) -> Result<SortedPart, Fail> {
+pub fn part_of(alloc: Global, text: &str) -> Result<SortedPart, Fail>
+    ensures { IfOk result (λ part. length part ≤ 9) }
+{
     Ok(SortedPart::new(alloc, unsorted(alloc, text)?)?)
 }
 

@@ -1,10 +1,12 @@
 //! Points, places, lattices and triangles.
-ghost use Rattle.std.specs.Prelude.{IfOk, IsTrue};
+ghost use Rattle.std.specs.Prelude.{◌≡◌, ℕ, List, IfOk, IsTrue, codes};
+ghost use Rattle.std.specs.Str.{trim_end};
 ghost use Rattle.mill_base.specs.Lattices.{IsLattice};
 ghost use Rattle.mill_base.specs.Numbers.{Within};
 ghost use Rattle.mill_base.specs.Ranges.{IsInRange, TriInRange};
 ghost use Rattle.mill_base.specs.declared.limits.TheConstants.{MAX_COORDINATE};
 ghost use Rattle.mill_geom.specs.Offsets.{IsCentre};
+ghost use Rattle.mill_tables.specs.Rows.{CutsAt};
 
 use crate::values::{coordinate, number};
 use crate::words::first_word;
@@ -61,7 +63,11 @@ pub fn lattice(text: &str) -> Result<Lattice, Fail>
 
 /// The texts of a triangle's corners, with a comma between them. The last one counts again where
 /// there are fewer than three.
-pub fn corners(text: &str) -> (&str, &str, &str) {
+pub fn corners(text: &str) -> (&str, &str, &str)
+    ensures { (others : List ℕ)
+        × CutsAt (codes ", ") text.now text.now result.0.now others
+        × CutsAt (codes ", ") others others result.1.now result.2.now }
+{
     let (a, others) = text.split_once(", ").unwrap_or((text, text));
     let (b, c) = others.split_once(", ").unwrap_or((others, others));
     (a, b, c)
@@ -78,7 +84,11 @@ pub fn triangle(text: &str) -> Result<Tri, Fail>
 
 /// A row's corners, if it has any, and the tip's place that stands behind `at`: the origin, if it
 /// says none.
-pub fn placed(text: &str) -> (&str, &str) {
+pub fn placed(text: &str) -> (&str, &str)
+    ensures { (corners : List ℕ)
+        × CutsAt (codes "at ") (codes "0 0 0") text.now corners result.1.now
+        × (result.0.now ≡ trim_end corners) }
+{
     let (corners, place) = text.split_once("at ").unwrap_or((text, "0 0 0"));
     (corners.trim_end(), place)
 }

@@ -1,11 +1,10 @@
 //! Cutters, holders and tools.
-ghost use Rattle.std.specs.Prelude.{IfOk};
+ghost use Rattle.std.specs.Prelude.{◌≡◌, ◌≤ℤ◌, pos, IfOk, IfSome};
 ghost use Rattle.mill_base.specs.Sizes.{IsCutter, IsCutterUpTo, IsSlope, IsWideCutter};
-ghost use Rattle.mill_base.specs.Tools.{IsHolder, IsTool};
 
 use crate::values::number;
 use crate::words::first_word;
-use mill_base::{Cutter, Holder, MAX_COORDINATE, MAX_RADIUS, MAX_WIDE_RADIUS, Tool};
+use mill_base::{Cutter, MAX_COORDINATE, MAX_RADIUS, MAX_WIDE_RADIUS, Solid, Tool};
 use std::test::Fail;
 
 /// A cone's rise and run.
@@ -53,27 +52,25 @@ pub fn wide_cutter(text: &str) -> Result<Cutter, Fail>
 }
 
 /// A holder by its radius and its stickout.
-pub fn holder(text: &str) -> Result<Holder, Fail>
-    ensures { IfOk result (λ holder. IsHolder holder) }
+pub fn holder(text: &str) -> Result<Solid, Fail>
+    ensures { IfOk result (λ holder. pos 1 ≤ℤ holder.lift) }
 {
     let (size, stickout) = first_word(text)?;
     let radius = number(size, 1, MAX_RADIUS)?;
     let stickout = number(stickout, 1, MAX_COORDINATE as i32)?;
-    Ok(Holder { radius, stickout })
+    Ok(Solid::new(Cutter::Flat { radius }, stickout))
 }
 
 /// A cutter, or one in what holds it, as `flat 100 in 200 50`.
 pub fn tool(text: &str) -> Result<Tool, Fail>
-    ensures { IfOk result (λ tool. IsTool tool) }
+    ensures cutter { IfOk result (λ tool. tool.cutter.lift ≡ pos 0) }
+    ensures holder { IfOk result (λ tool. IfSome tool.holder (λ holder. pos 1 ≤ℤ holder.lift)) }
 {
     match text.split_once(" in ") {
-        None => Ok(Tool::bare(cutter(text)?)),
-        Some((held, around)) => {
-            let (held, around) = (cutter(held)?, holder(around)?);
-            Ok(Tool {
-                cutter: held,
-                holder: Some(around),
-            })
-        }
+        None => Ok(Tool::bare(Solid::at_tip(cutter(text)?))),
+        Some((held, around)) => Ok(Tool {
+            cutter: Solid::at_tip(cutter(held)?),
+            holder: Some(holder(around)?),
+        }),
     }
 }

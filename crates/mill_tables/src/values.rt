@@ -1,5 +1,5 @@
 //! Numbers.
-ghost use Rattle.std.specs.Prelude.{◌≤ℤ◌, IfOk};
+ghost use Rattle.std.specs.Prelude.{◌≤◌, ◌≤ℤ◌, IfOk, length, vec_len};
 ghost use Rattle.mill_base.specs.Numbers.{Within};
 ghost use Rattle.mill_base.specs.declared.limits.TheConstants.{MAX_COORDINATE};
 
@@ -31,7 +31,9 @@ pub fn coordinate(text: &str) -> Result<i32, Fail>
 }
 
 /// The numbers of a text, with blanks between them.
-pub fn numbers(alloc: Global, text: &str) -> Result<Vec<u64>, Fail> {
+pub fn numbers(alloc: Global, text: &str) -> Result<Vec<u64>, Fail>
+    ensures { IfOk result (λ numbers. vec_len numbers ≤ length text.now) }
+{
     let mut numbers = Vec::new(alloc);
     for word in text.split_whitespace() {
         numbers.push(word.parse::<u64>()?)?;

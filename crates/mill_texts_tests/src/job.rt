@@ -4,7 +4,7 @@
 // is a line `OLD => NEW => SAYS`: EXAMPLE with NEW in the place of OLD, and what is said of it. There
 // `\n` is a line's end.
 use crate::tables::{same, text_of_row};
-use mill_base::{Box2, Cutter, Holder, Pt3, Tool, Unit};
+use mill_base::{Box2, Cutter, Pt3, Solid, Tool, Unit};
 use mill_decimal::Snap;
 use mill_job::{JobFault, JobFields, Key, Levels, Name, Place, read_job};
 use mill_tables::halves;
@@ -147,7 +147,7 @@ fn a_job_has_a_home_and_a_tool(rt: HostRuntime) -> Result<(), Fail> {
         z: 400,
     };
     let found = (job.home(), job.tool());
-    assert_eq!(rt; found, (home, Tool::bare(JOB.cutter)));
+    assert_eq!(rt; found, (home, Tool::bare(Solid::at_tip(JOB.cutter))));
     Ok(())
 }
 
@@ -165,8 +165,8 @@ band = 0 => band = 0\nrough_stock = 10000 => lift: 0, raster: 100, rough_raster:
 band = 0 => band = 0\nlift = 0\nlayer = 0\nrough_stock = 0 => lift: 0, raster: 100, rough_raster: 100, layer: 0, rough_stock: 0
 band = 0 => band = 0\nmax_cut = 131071 => snap: Nearest, max_cut: 131071
 band = 0 => band = 0\nmax_cut = 0 => snap: Nearest, max_cut: 0
-band = 0 => band = 0\nstickout = 131071\nholder_radius = 151 => holder: Some(Holder { radius: 151, stickout: 131071 })
-band = 0 => band = 0\nholder_radius = 10000\nstickout = 1 => holder: Some(Holder { radius: 10000, stickout: 1 })
+band = 0 => band = 0\nstickout = 131071\nholder_radius = 151 => holder: Some(Solid { cutter: Flat { radius: 151 }, lift: 131071 })
+band = 0 => band = 0\nholder_radius = 10000\nstickout = 1 => holder: Some(Solid { cutter: Flat { radius: 10000 }, lift: 1 })
 band = 0 => band = 0\nmax_cut = 0 => holder: None, path_tol: None }
 band = 0 => band = 0\npath_tol = 0 => holder: None, path_tol: Some(0) }
 band = 0 => band = 0\npath_tol = 10000 => holder: None, path_tol: Some(10000) }
@@ -376,10 +376,7 @@ fn mended_job() -> JobFields {
         rough_stock: 10000,
         levels,
         max_cut: 9,
-        holder: Some(Holder {
-            radius: 151,
-            stickout: 131071,
-        }),
+        holder: Some(Solid::new(Cutter::Flat { radius: 151 }, 131071)),
         path_tol: Some(0),
         ..JOB
     }
@@ -411,7 +408,7 @@ const FINE: &str =
     r#"clear = 400 => clear = 524287\nlayer = 524287 => unit: Thousandth, cutter: Flat { radius: 150 }, floor: 0, top: 300, clear: 524287
 band = 0 => band = 0\nlayer = 524287 => layer: 524287
 band = 0 => band = 0\nmax_cut = 524287 => max_cut: 524287
-band = 0 => band = 0\nholder_radius = 151\nstickout = 524287 => holder: Some(Holder { radius: 151, stickout: 524287 })"#;
+band = 0 => band = 0\nholder_radius = 151\nstickout = 524287 => holder: Some(Solid { cutter: Flat { radius: 151 }, lift: 524287 })"#;
 
 const NOT_FINE: &str = r#""thousandth" => "inch" => unit out of range
 "thousandth" => 3 => wrong kind of unit

@@ -7,9 +7,7 @@ use Rattle.mill_job.specs.declared.fields.JobFields.{JobFields}
 use Rattle.mill_job.specs.Jobs.{IsJob}
 use Rattle.mill_shape.proofs.Over.{holds_over}
 use Rattle.mill_part.proofs.Below.{covered_below}
-use Rattle.mill_sweep.proofs.Halves.{passing_is_clear}
-use Rattle.mill_sweep.proofs.Holding.{holder_is_clear, holder_keeps_point}
-use Rattle.mill_sweep.proofs.Lower.{passing_keeps_point}
+use Rattle.mill_sweep.proofs.Solids.{passing_is_clear, passing_keeps_point}
 use Rattle.mill_verify.specs.Verdicts.{AcceptsOn, IsVerdict}
 use Rattle.mill_dexel.specs.Tops.{uncut}
 use Rattle.mill_verify.specs.Claims.{CutsSafely}
@@ -20,7 +18,7 @@ use Rattle.mill_verify.proofs.Safe.{safe}
 
 accepted : (job : JobFields) (part : List Tri) (moves : List Move) (count columns : ℕ) (left : ℤ) → IsJob job → MovesInRange moves → AcceptsOn job part (uncut job) moves count columns left → CutsSafely job part moves
 accepted job part moves count columns left ok moves_ok a =
-    safe job part moves ok moves_ok passing_is_clear passing_keeps_point holder_is_clear holder_keeps_point over_top_is_removed passed_is_left covered_below holds_over count columns left a
+    safe job part moves ok moves_ok passing_is_clear passing_keeps_point over_top_is_removed passed_is_left covered_below holds_over count columns left a
 
 -- if the verdict is an acceptance, the program cuts safely
 pub accepted_is_safe : (job : JobFields) (part : List Tri) (moves : List Move) (v : Verdict) → IsJob job → MovesInRange moves → IsVerdict job part moves v

@@ -1,4 +1,4 @@
-mod Mounted
+pub mod Mounted
 mod ReadLemmas
 mod StockLemmas
 mod Shown

@@ -2,9 +2,9 @@
 use Rattle.std.specs.Prelude.{◌≡◌, ℕ, ◌<◌, List, length, Some}
 use Rattle.mill_base.specs.Points.{point_tri, tri_at}
 use Rattle.mill_base.specs.Ranges.{MoveInRange, MovesInRange}
-use Rattle.mill_base.specs.Tools.{IsHolder}
+use Rattle.mill_base.proofs.SolidLemmas.{cutter_is_solid}
+use Rattle.mill_base.specs.Solids.{IsSolid, Solid, at_tip}
 use Rattle.mill_base.specs.declared.points.Tri.{Tri}
-use Rattle.mill_base.specs.declared.tool.Holder.{Holder as OneHolder}
 use Rattle.mill_base.specs.declared.motion.Move.{Move}
 use Rattle.mill_base.specs.declared.motion.Kind.TheVariants.{Rapid, Feed}
 use Rattle.mill_job.specs.declared.fields.JobFields.{JobFields}
@@ -12,10 +12,8 @@ use Rattle.mill_job.specs.Jobs.{IsJob}
 use Rattle.mill_dexel.specs.Tops.{Stock, tested_point_on, top_point_on}
 use Rattle.mill_dexel.specs.Turns.{move_at}
 use Rattle.mill_sweep.specs.declared.leaf.Leaf.{Leaf}
-use Rattle.mill_sweep.specs.Halving.{Blocks, FailsAt}
-use Rattle.mill_sweep.specs.Holders.{HolderFailingIsBlocked, HolderFailsAt, HolderIsBlocked}
-use Rattle.mill_sweep.specs.Leaves.{span_of}
 use Rattle.mill_sweep.specs.Moments.{FailingIsBlocked}
+use Rattle.mill_sweep.specs.Solids.{SolidFailsAt, SolidIsBlocked}
 use Rattle.mill_verify.proofs.Mounted.{of_some}
 use Rattle.mill_verify.proofs.ReadLemmas.{move_read}
 use Rattle.mill_verify.proofs.Shown.{BlocksHeld, IsShown, ShowsBlock}
@@ -25,35 +23,33 @@ use Rattle.mill_verify.specs.declared.verdict.Reason.{Reason}
 use Rattle.mill_verify.specs.declared.verdict.Reason.TheVariants.{Floor, Gouge, Holder, Rapid as RapidCut, Cut, HolderStock, Left}
 use Rattle.mill_verify.specs.inner.Firsts.{IsStopped}
 
-module _ (failing_is_blocked : FailingIsBlocked) (holder_failing_is_blocked : HolderFailingIsBlocked) (job : JobFields) (part : List Tri) (start : Stock) (moves : List Move) (job_ok : IsJob job) (moves_ok : MovesInRange moves) where
+module _ (failing_is_blocked : FailingIsBlocked) (job : JobFields) (part : List Tri) (start : Stock) (moves : List Move) (job_ok : IsJob job) (moves_ok : MovesInRange moves) where
   in_range : (k : ℕ) → k < length moves → MoveInRange (move_at moves k)
   in_range k there = moves_ok (move_at moves k) (k, there, move_read moves k (move_at moves k) there)
 
-  -- the cutter's
-  leaf_named : (k : ℕ) (leaf : Leaf) (tri : Tri) → k < length moves → FailsAt job.cutter (move_at moves k) tri leaf → Blocks job.cutter (span_of (move_at moves k) leaf.d leaf.k) tri
-      → BlocksLeaf job.cutter (move_at moves k) leaf tri
-  leaf_named k leaf tri there fails shown = record { last = (failing_is_blocked job.cutter (move_at moves k) tri leaf job_ok.cutter_ok (in_range k there) fails).0; blocks = shown }
+  leaf_named : (solid : Solid) → IsSolid solid → (k : ℕ) (leaf : Leaf) (tri : Tri) → k < length moves → SolidFailsAt solid (move_at moves k) tri leaf → SolidIsBlocked solid (move_at moves k) tri leaf
+      → BlocksLeaf solid (move_at moves k) leaf tri
+  leaf_named solid ok k leaf tri there fails shown = record { last = (failing_is_blocked solid (move_at moves k) tri leaf ok (in_range k there) fails).0; blocks = shown }
+
+  cutter_ok : IsSolid (at_tip job.cutter)
+  cutter_ok = cutter_is_solid job.cutter job_ok.cutter_ok
 
   -- the holder's
-  held_named : (k : ℕ) (leaf : Leaf) (tri : Tri) (holder : OneHolder) → job.holder ≡ Some holder → k < length moves → HolderFailsAt holder (move_at moves k) tri leaf → BlocksHeld job moves k leaf tri
+  held_named : (k : ℕ) (leaf : Leaf) (tri : Tri) (holder : Solid) → job.holder ≡ Some holder → k < length moves → SolidFailsAt holder (move_at moves k) tri leaf → BlocksHeld job moves k leaf tri
       → BlocksHolder job moves k leaf tri
-  held_named k leaf tri holder mounted there fails shown =
-      let ok : IsHolder holder = of_some IsHolder job.holder holder mounted job_ok.holder_ok in
-      record {
-        holder = holder;
-        mounted = mounted;
-        blocks = record {
-          last = (holder_failing_is_blocked holder (move_at moves k) tri leaf ok (in_range k there) fails).0;
-          blocks = of_some (λ (h : OneHolder). HolderIsBlocked h (move_at moves k) tri leaf) job.holder holder mounted shown;
-        };
-      }
+  held_named k leaf tri holder mounted there fails shown = record {
+    holder = holder;
+    mounted = mounted;
+    blocks = leaf_named holder (of_some IsSolid job.holder holder mounted job_ok.holder_ok) k leaf tri there fails
+        (of_some (λ (h : Solid). SolidIsBlocked h (move_at moves k) tri leaf) job.holder holder mounted shown);
+  }
 
   names : (reason : Reason) → IsRejectionOn job part start moves reason → ShowsBlock job part start moves reason → NamesLeaf job part start moves reason
   names (Floor k) h shown = tt
-  names (Gouge k t leaf) h shown = leaf_named k leaf (tri_at part t) h.there h.fails shown
+  names (Gouge k t leaf) h shown = leaf_named (at_tip job.cutter) cutter_ok k leaf (tri_at part t) h.there h.fails shown
   names (Holder k t leaf) h shown = held_named k leaf (tri_at part t) h.holder h.mounted h.there h.fails shown
-  names (RapidCut k j i leaf) h shown = leaf_named k leaf (point_tri (tested_point_on job Rapid (stock_met job start moves k) j i)) h.there h.fails shown
-  names (Cut k j i leaf) h shown = leaf_named k leaf (point_tri (tested_point_on job Feed (stock_met job start moves k) j i)) h.there h.fails shown
+  names (RapidCut k j i leaf) h shown = leaf_named (at_tip job.cutter) cutter_ok k leaf (point_tri (tested_point_on job Rapid (stock_met job start moves k) j i)) h.there h.fails shown
+  names (Cut k j i leaf) h shown = leaf_named (at_tip job.cutter) cutter_ok k leaf (point_tri (tested_point_on job Feed (stock_met job start moves k) j i)) h.there h.fails shown
   names (HolderStock k j i leaf) h shown = held_named k leaf (point_tri (top_point_on job (stock_met job start moves k) j i)) h.holder h.mounted h.there h.fails shown
   names (Left j i top) h shown = tt
 

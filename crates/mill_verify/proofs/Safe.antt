@@ -13,28 +13,27 @@ use Rattle.mill_base.specs.declared.motion.Kind.TheVariants.{Rapid}
 use Rattle.mill_base.specs.Numbers.{square}
 use Rattle.mill_base.specs.declared.cutter.Cutter.{Cutter}
 use Rattle.mill_base.specs.Motion.{IsMoment, tip_at}
-use Rattle.mill_base.specs.Tools.{HolderGouges, IsHolder, holder_tip, solid_of}
-use Rattle.mill_base.specs.declared.tool.Holder.{Holder}
+use Rattle.mill_base.specs.Solids.{IsSolid, Solid, SolidGouges, SolidHolds, at_tip}
 use Rattle.mill_base.specs.Contact.{GougesOn, Holds, HoldsOver, Removes}
 use Rattle.mill_base.specs.Covers.{CoveredBelow, HasPointOver}
 use Rattle.mill_base.specs.Ranges.{IsInRange, MoveInRange, MovesInRange}
-use Rattle.mill_sweep.specs.Halving.{Passes}
 use Rattle.mill_sweep.specs.Moments.{PassingIsClear, PassingKeepsPoint}
-use Rattle.mill_sweep.specs.Holders.{HolderIsClear, HolderKeepsPoint, HolderPasses, HolderPassesPoint}
+use Rattle.mill_sweep.specs.Solids.{SolidPasses, SolidPassesPoint}
 use Rattle.mill_job.specs.declared.fields.JobFields.{JobFields}
 use Rattle.mill_job.specs.Jobs.{IsJob}
 use Rattle.mill_job.specs.Columns.{IsColumn, column_x, column_y}
-use Rattle.mill_gouge.specs.Gouges.{HolderPassesPart}
+use Rattle.mill_gouge.specs.Gouges.{PassesPart}
 use Rattle.mill_dexel.specs.Stocks.{IsStockOf}
 use Rattle.mill_dexel.specs.Tops.{Stock, stock_after, tested_height, tested_point_on, top_after_move, top_on, top_point_on, uncut}
 use Rattle.mill_dexel.specs.Laws.{OverTopIsRemoved, PassedIsLeft}
 use Rattle.mill_dexel.proofs.RowLaws.{top_on_more}
 use Rattle.mill_dexel.proofs.TopLaws.{stock_stays, uncut_stays}
 use Rattle.mill_base.proofs.Ranges.{within_of_unit}
+use Rattle.mill_base.proofs.SolidLemmas.{cutter_is_solid}
 use Rattle.mill_verify.proofs.Mounted.{if_some, of_some}
 use Rattle.mill_verify.proofs.Ranges.{column_within, stock_within}
 use Rattle.mill_verify.proofs.Depths.{clears_as, tested_deep, tested_each, tested_high, tested_within}
-use Rattle.mill_verify.specs.Tests.{GoodBeforeOn, IsCutOn, PassesColumnOn, PassesTri, stock_met}
+use Rattle.mill_verify.specs.Tests.{GoodBeforeOn, IsCutOn, PassesColumnOn, stock_met}
 use Rattle.mill_dexel.specs.Turns.{move_at}
 use Rattle.mill_base.specs.Points.{point_at, tri_at}
 use Rattle.mill_verify.specs.Verdicts.{AcceptsOn}
@@ -119,21 +118,27 @@ module _ (job : JobFields) (part : List Tri) (start : Stock) (moves : List Move)
   tested_ok : (kind : Kind) (k j i : ℕ) → IsColumn job j i → IsInRange (tested_point_on job kind (stock_met job start moves k) j i)
   tested_ok kind k j i c = column_within ok c (tested_within kind (stock_met job start moves k j i) ok (met_ok k j i c))
 
-  passes : (k t : ℕ) (m : Move) (tri : Tri) → GoodBeforeOn job part start moves (length moves) → k < length moves → slice_index_or moves k m ≡ m → t < length part → slice_index_or part t tri ≡ tri → Passes job.cutter m tri
-  passes k t m tri good hk ek ht et =
-      let q : PassesTri job part moves k t = (good k hk).clears t ht in
-      let q2 : Passes job.cutter m (tri_at part t) = subst (λ (v : Move). Passes job.cutter v (tri_at part t)) (sym (move_is moves k m hk ek)) q in
-      subst (λ (v : Tri). Passes job.cutter m v) (sym (tri_is part t tri ht et)) q2
+  cutter_ok : IsSolid (at_tip job.cutter)
+  cutter_ok = cutter_is_solid job.cutter ok.cutter_ok
+
+  -- a solid that passes the part on each move has no part point strictly inside at any moment of any
+  module _ (clear : PassingIsClear) (solid : Solid) (solid_ok : IsSolid solid) (each : (k : ℕ) → k < length moves → PassesPart solid (move_at moves k) part) where
+    passes : (k t : ℕ) (m : Move) (tri : Tri) → k < length moves → slice_index_or moves k m ≡ m → t < length part → slice_index_or part t tri ≡ tri → SolidPasses solid m tri
+    passes k t m tri hk ek ht et =
+        let q : SolidPasses solid m (tri_at part t) = subst (λ (v : Move). SolidPasses solid v (tri_at part t)) (sym (move_is moves k m hk ek)) (each k hk t ht) in
+        subst (λ (v : Tri). SolidPasses solid m v) (sym (tri_is part t tri ht et)) q
+
+    misses_part : (m : Move) (a n : ℤ) → Contains moves m → IsMoment a n → ¬ SolidGouges solid n (tip_at m a n) part
+    misses_part m a n member moment g =
+        clear solid m g.tri a n solid_ok (all_ok m member) (passes member.0 g.member.0 m g.tri member.1 member.2 g.member.1 g.member.2) moment g.touches
 
   pub never_gouges : PassingIsClear → GoodBeforeOn job part start moves (length moves) → NeverGouges job part moves
-  never_gouges clear good m member g =
-      clear job.cutter m g.gouges.tri g.k g.m ok.cutter_ok (all_ok m member)
-      (passes member.0 g.gouges.member.0 m g.gouges.tri good member.1 member.2 g.gouges.member.1 g.gouges.member.2) g.moment g.gouges.touches
+  never_gouges clear good m member g = misses_part clear (at_tip job.cutter) cutter_ok (λ k hk. (good k hk).clears) m g.k g.m member g.moment g.gouges
 
   pub rapids_miss : PassingKeepsPoint → (Met : PointsMet) → AreUnderTop job start moves Met → GoodBeforeOn job part start moves (length moves) → RapidsMiss job moves Met
   rapids_miss keeps Met under good k j i h hk rapid point met removes =
-      keeps job.cutter (move_at moves k) (column_x job i) (column_y job j) (stock_met job start moves k j i) h ok.cutter_ok
-      (in_range k hk) (top_ok k j i point.column) (clears_as job start moves Rapid k rapid (good k hk).stock tt j i point.column) (under k j i h point met) removes
+      keeps (at_tip job.cutter) (move_at moves k) (column_x job i) (column_y job j) (stock_met job start moves k j i) h removes.k removes.m cutter_ok
+      (in_range k hk) (top_ok k j i point.column) (clears_as job start moves Rapid k rapid (good k hk).stock tt j i point.column) (under k j i h point met) removes.moment removes.inside
 
   -- where the depth of cut is limited
   module _ (good : GoodBeforeOn job part start moves (length moves)) (limited : (pos 0) <ℤ job.max_cut) where
@@ -147,11 +152,11 @@ module _ (job : JobFields) (part : List Tri) (start : Stock) (moves : List Move)
     -- so it removes no point as low as that
     cuts_shallow : PassingKeepsPoint → (k j i : ℕ) (h : ℤ) → k < length moves → IsColumnPoint job j i h → h ≤ℤ (stock_met job start moves k j i -ℤ job.max_cut)
         → ¬ Removes job.cutter (move_at moves k) (pos 1) (point_at (column_x job i) (column_y job j) h)
-    cuts_shallow keeps k j i h hk point deep =
+    cuts_shallow keeps k j i h hk point deep removes =
         let kind = (move_at moves k).kind in
         let top = stock_met job start moves k j i in
-        keeps job.cutter (move_at moves k) (column_x job i) (column_y job j) (tested_height job kind top) h ok.cutter_ok (in_range k hk)
-        (tested_ok kind k j i point.column) (passes_each k j i hk point.column) (at_most _ _ _ deep (tested_deep job kind top limited))
+        keeps (at_tip job.cutter) (move_at moves k) (column_x job i) (column_y job j) (tested_height job kind top) h removes.k removes.m cutter_ok (in_range k hk)
+        (tested_ok kind k j i point.column) (passes_each k j i hk point.column) (at_most _ _ _ deep (tested_deep job kind top limited)) removes.moment removes.inside
 
     -- one move more lowers a top by that move
     top_lowered : (k j i : ℕ) → k < length moves
@@ -177,34 +182,27 @@ module _ (job : JobFields) (part : List Tri) (start : Stock) (moves : List Move)
   }
 
   -- where there is a holder
-  module _ (good : GoodBeforeOn job part start moves (length moves)) (Met : PointsMet) (under : AreUnderTop job start moves Met) (holder : Holder) (mounted : job.holder ≡ Some holder) where
-    holder_ok : IsHolder holder
-    holder_ok = of_some IsHolder job.holder holder mounted ok.holder_ok
+  module _ (good : GoodBeforeOn job part start moves (length moves)) (Met : PointsMet) (under : AreUnderTop job start moves Met) (holder : Solid) (mounted : job.holder ≡ Some holder) where
+    holder_ok : IsSolid holder
+    holder_ok = of_some IsSolid job.holder holder mounted ok.holder_ok
 
     -- it passes each triangle on each move
-    holder_passes : (k t : ℕ) (m : Move) (tri : Tri) → k < length moves → slice_index_or moves k m ≡ m → t < length part → slice_index_or part t tri ≡ tri → HolderPasses holder m tri
-    holder_passes k t m tri hk ek ht et =
-        let each = of_some (λ (h : Holder). HolderPassesPart h (move_at moves k) part) job.holder holder mounted (good k hk).holder in
-        let q : HolderPasses holder m (tri_at part t) = subst (λ (v : Move). HolderPasses holder v (tri_at part t)) (sym (move_is moves k m hk ek)) (each t ht) in
-        subst (λ (v : Tri). HolderPasses holder m v) (sym (tri_is part t tri ht et)) q
-
-    misses_part : HolderIsClear → (m : Move) (a n : ℤ) → Contains moves m → IsMoment a n → ¬ HolderGouges holder n (tip_at m a n) part
-    misses_part clear m a n member moment g =
-        clear holder m g.tri a n holder_ok (all_ok m member) (holder_passes member.0 g.member.0 m g.tri member.1 member.2 g.member.1 g.member.2) moment g.touches
+    holder_passes : (k : ℕ) → k < length moves → PassesPart holder (move_at moves k) part
+    holder_passes k hk = of_some (λ (h : Solid). PassesPart h (move_at moves k) part) job.holder holder mounted (good k hk).holder
 
     -- and each column's top
-    misses_stock : HolderKeepsPoint → (k j i : ℕ) (h a n : ℤ) → k < length moves → IsColumnPoint job j i h → Met k j i h → IsMoment a n
-        → ¬ Holds (solid_of holder) n (holder_tip holder n (tip_at (move_at moves k) a n)) (pos 1) (point_at (column_x job i) (column_y job j) h)
+    misses_stock : PassingKeepsPoint → (k j i : ℕ) (h a n : ℤ) → k < length moves → IsColumnPoint job j i h → Met k j i h → IsMoment a n
+        → ¬ SolidHolds holder n (tip_at (move_at moves k) a n) (pos 1) (point_at (column_x job i) (column_y job j) h)
     misses_stock keeps k j i h a n hk point met moment =
-        let each = of_some (λ (v : Holder). (b c : ℕ) → IsColumn job b c → HolderPassesPoint v (move_at moves k) (top_point_on job (stock_met job start moves k) b c)) job.holder holder mounted (good k hk).holder_stock in
+        let each = of_some (λ (v : Solid). (b c : ℕ) → IsColumn job b c → SolidPassesPoint v (move_at moves k) (top_point_on job (stock_met job start moves k) b c)) job.holder holder mounted (good k hk).holder_stock in
         keeps holder (move_at moves k) (column_x job i) (column_y job j) (stock_met job start moves k j i) h a n holder_ok
         (in_range k hk) (top_ok k j i point.column) (each j i point.column) (under k j i h point met) moment
 
-    stays_clear : HolderIsClear → HolderKeepsPoint → HolderStaysClear holder job part moves Met
-    stays_clear clear keeps = record { misses_part = misses_part clear; misses_stock = misses_stock keeps }
+    stays_clear : PassingIsClear → PassingKeepsPoint → HolderStaysClear holder job part moves Met
+    stays_clear clear keeps = record { misses_part = misses_part clear holder holder_ok holder_passes; misses_stock = misses_stock keeps }
 
-  pub keeps_clear : HolderIsClear → HolderKeepsPoint → (Met : PointsMet) → AreUnderTop job start moves Met → GoodBeforeOn job part start moves (length moves) → HolderKeepsClearOf job part moves Met
-  keeps_clear clear keeps Met under good = if_some (λ (holder : Holder). HolderStaysClear holder job part moves Met) job.holder (λ holder mounted. stays_clear good Met under holder mounted clear keeps)
+  pub keeps_clear : PassingIsClear → PassingKeepsPoint → (Met : PointsMet) → AreUnderTop job start moves Met → GoodBeforeOn job part start moves (length moves) → HolderKeepsClearOf job part moves Met
+  keeps_clear clear keeps Met under good = if_some (λ (holder : Solid). HolderStaysClear holder job part moves Met) job.holder (λ holder mounted. stays_clear good Met under holder mounted clear keeps)
 
 -- one program, from the uncut stock on
 module _ (job : JobFields) (part : List Tri) (moves : List Move) (ok : IsJob job) (all_ok : MovesInRange moves) where
@@ -224,12 +222,12 @@ module _ (job : JobFields) (part : List Tri) (moves : List Move) (ok : IsJob job
   part_is_left never over j i h point stands r = keeps_part over job part j i h job.cutter r.move stands (never r.move r.member) r.removes
 
   -- what an accepted program does, from the laws
-  pub safe : PassingIsClear → PassingKeepsPoint → HolderIsClear → HolderKeepsPoint → OverTopIsRemoved → PassedIsLeft → CoveredBelow → HoldsOver → (count columns : ℕ) (most : ℤ) → AcceptsOn job part (uncut job) moves count columns most → CutsSafely job part moves
-  safe clear keeps holder_clear holder_keeps removed left below over count columns most a = record {
+  pub safe : PassingIsClear → PassingKeepsPoint → OverTopIsRemoved → PassedIsLeft → CoveredBelow → HoldsOver → (count columns : ℕ) (most : ℤ) → AcceptsOn job part (uncut job) moves count columns most → CutsSafely job part moves
+  safe clear keeps removed left below over count columns most a = record {
     gouges = never_gouges job part (uncut job) moves ok uncut_ok all_ok clear a.good;
     rapids = rapids_miss job part (uncut job) moves ok uncut_ok all_ok keeps (left_before job moves) (met_under removed) a.good;
     covered = are_covered below job part (stock_after job (uncut job) moves) (LeavesPoint job moves) (under_top removed moves all_ok) a.cut;
     kept = part_is_left (never_gouges job part (uncut job) moves ok uncut_ok all_ok clear a.good) over;
     depth = keeps_depth job part (uncut job) moves ok uncut_ok all_ok keeps left a.good;
-    holder = keeps_clear job part (uncut job) moves ok uncut_ok all_ok holder_clear holder_keeps (left_before job moves) (met_under removed) a.good;
+    holder = keeps_clear job part (uncut job) moves ok uncut_ok all_ok clear keeps (left_before job moves) (met_under removed) a.good;
   }

@@ -16,9 +16,7 @@ use Rattle.mill_dexel.specs.Tops.{Stock, uncut}
 use Rattle.mill_dexel.proofs.Removal.{moves_remove, passed_is_left}
 use Rattle.mill_shape.proofs.Over.{holds_over}
 use Rattle.mill_part.proofs.Below.{covered_below}
-use Rattle.mill_sweep.proofs.Halves.{passing_is_clear}
-use Rattle.mill_sweep.proofs.Holding.{holder_is_clear, holder_keeps_point}
-use Rattle.mill_sweep.proofs.Lower.{passing_keeps_point}
+use Rattle.mill_sweep.proofs.Solids.{passing_is_clear, passing_keeps_point}
 use Rattle.mill_verify.specs.Claims.{NeverGouges}
 use Rattle.mill_verify.specs.Files.{File, IsFileOf, after_file, after_files, file_at, job_of, stock_before}
 use Rattle.mill_verify.specs.ListClaims.{FileCutsSafely, FilesCutSafely, IsRemovedBy, left_by, met_by}
@@ -60,6 +58,7 @@ job_with job file ok its = record {
   levels_ok = ok.levels_ok;
   max_cut_ok = ok.max_cut_ok;
   holder_ok = ok.holder_ok;
+  stickout = ok.stickout;
   wider = its.fits.wider;
   path_tol_ok = ok.path_tol_ok;
 }
@@ -152,7 +151,7 @@ module _ (job : JobFields) (part : List Tri) (files : List File) (ok : IsJob job
           gouges = gouges_never good;
           rapids = rapids_miss its part (stock_before job files f) file.moves job_ok stays its_ok.moves_ok passing_keeps_point (met_by job files f) under good;
           depth = keeps_depth its part (stock_before job files f) file.moves job_ok stays its_ok.moves_ok passing_keeps_point passed_is_left good;
-          holder = keeps_clear its part (stock_before job files f) file.moves job_ok stays its_ok.moves_ok holder_is_clear holder_keeps_point (met_by job files f) under good;
+          holder = keeps_clear its part (stock_before job files f) file.moves job_ok stays its_ok.moves_ok passing_is_clear passing_keeps_point (met_by job files f) under good;
         }
 
   -- no move of a file removes a point at or under the part

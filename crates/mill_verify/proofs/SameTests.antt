@@ -8,9 +8,9 @@ use Rattle.mill_base.specs.declared.points.Tri.{Tri}
 use Rattle.mill_base.specs.declared.motion.Kind.{Kind}
 use Rattle.mill_base.specs.declared.motion.Kind.TheVariants.{Rapid, Feed}
 use Rattle.mill_base.specs.declared.motion.Move.{Move}
-use Rattle.mill_base.specs.declared.tool.Holder.{Holder as OneHolder}
+use Rattle.mill_base.specs.Solids.{Solid, at_tip}
 use Rattle.mill_sweep.specs.Halving.{FailsAt, PassesPoint}
-use Rattle.mill_sweep.specs.Holders.{HolderFailsAt, HolderPassesPoint}
+use Rattle.mill_sweep.specs.Solids.{SolidFailsAt, SolidPassesPoint}
 use Rattle.mill_sweep.specs.declared.leaf.Leaf.{Leaf}
 use Rattle.mill_job.specs.declared.fields.JobFields.{JobFields}
 use Rattle.mill_job.specs.Columns.{IsColumn, column_x, column_y}
@@ -92,9 +92,9 @@ module _ (job : JobFields) (part : List Tri) (a b : Stock) (moves : List Move) (
 
   same_holder_clears : (k : ℕ) → HolderClearsStockOn job a moves k → HolderClearsStockOn job b moves k
   same_holder_clears k = each_some
-      (λ (holder : OneHolder). (j i : ℕ) → IsColumn job j i → HolderPassesPoint holder (move_at moves k) (top_point_on job (stock_met job a moves k) j i))
-      (λ (holder : OneHolder). (j i : ℕ) → IsColumn job j i → HolderPassesPoint holder (move_at moves k) (top_point_on job (stock_met job b moves k) j i)) job.holder
-      (λ holder clears j i column. subst (λ (p : Pt3). HolderPassesPoint holder (move_at moves k) p) (same_top k j i column) (clears j i column))
+      (λ (holder : Solid). (j i : ℕ) → IsColumn job j i → SolidPassesPoint holder (move_at moves k) (top_point_on job (stock_met job a moves k) j i))
+      (λ (holder : Solid). (j i : ℕ) → IsColumn job j i → SolidPassesPoint holder (move_at moves k) (top_point_on job (stock_met job b moves k) j i)) job.holder
+      (λ holder clears j i column. subst (λ (p : Pt3). SolidPassesPoint holder (move_at moves k) p) (same_top k j i column) (clears j i column))
 
   same_good : (k : ℕ) → IsGoodOn job part a moves k → IsGoodOn job part b moves k
   same_good k good = record {
@@ -123,7 +123,7 @@ module _ (job : JobFields) (part : List Tri) (a b : Stock) (moves : List Move) (
   }
 
   same_stops : (kind : Kind) (k j i : ℕ) (leaf : Leaf) → IsColumn job j i → StopsMoveOn job a moves kind k j i leaf → StopsMoveOn job b moves kind k j i leaf
-  same_stops kind k j i leaf column = subst (λ (p : Pt3). BlocksLeaf job.cutter (move_at moves k) leaf (point_tri p)) (same_tested kind k j i column)
+  same_stops kind k j i leaf column = subst (λ (p : Pt3). BlocksLeaf (at_tip job.cutter) (move_at moves k) leaf (point_tri p)) (same_tested kind k j i column)
 
   same_holder_fails : (k j i : ℕ) (leaf : Leaf) → FailsHolderStockOn job part a moves k j i leaf → FailsHolderStockOn job part b moves k j i leaf
   same_holder_fails k j i leaf h = record {
@@ -136,8 +136,8 @@ module _ (job : JobFields) (part : List Tri) (a b : Stock) (moves : List Move) (
     holder = h.holder;
     mounted = h.mounted;
     column = h.column;
-    first = λ c d column order. subst (λ (p : Pt3). HolderPassesPoint h.holder (move_at moves k) p) (same_top k c d column) (h.first c d column order);
-    fails = subst (λ (p : Pt3). HolderFailsAt h.holder (move_at moves k) (point_tri p) leaf) (same_top k j i h.column) h.fails;
+    first = λ c d column order. subst (λ (p : Pt3). SolidPassesPoint h.holder (move_at moves k) p) (same_top k c d column) (h.first c d column order);
+    fails = subst (λ (p : Pt3). SolidFailsAt h.holder (move_at moves k) (point_tri p) leaf) (same_top k j i h.column) h.fails;
   }
 
   -- a move that fails first on the one does on the other

@@ -6,7 +6,7 @@ use Rattle.mill_base.specs.declared.motion.Kind.{Kind}
 use Rattle.mill_base.specs.declared.motion.Kind.TheVariants.{Rapid, Feed}
 use Rattle.mill_base.specs.Points.{point_tri, tri_at}
 use Rattle.mill_sweep.specs.Halving.{Blocks}
-use Rattle.mill_sweep.specs.Holders.{HolderIsBlocked}
+use Rattle.mill_sweep.specs.Solids.{SolidIsBlocked}
 use Rattle.mill_sweep.specs.Leaves.{span_of}
 use Rattle.mill_sweep.specs.declared.leaf.Leaf.{Leaf}
 use Rattle.mill_job.specs.declared.fields.JobFields.{JobFields}
@@ -23,7 +23,7 @@ StopsAt job start moves kind k j i leaf = Blocks job.cutter (span_of (move_at mo
 
 -- this triangle blocks the job's holder on this leaf of move k
 abbrev pub BlocksHeld : JobFields → List Move → ℕ → Leaf → Tri → Type 0
-BlocksHeld job moves k leaf tri = IfSome job.holder (λ holder. HolderIsBlocked holder (move_at moves k) tri leaf)
+BlocksHeld job moves k leaf tri = IfSome job.holder (λ holder. SolidIsBlocked holder (move_at moves k) tri leaf)
 
 -- a rejection by tests (ii) to (iii h) names a leaf that is blocked
 abbrev pub ShowsBlock : JobFields → List Tri → Stock → List Move → Reason → Type 0

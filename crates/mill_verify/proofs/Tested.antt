@@ -10,16 +10,16 @@ use Rattle.mill_base.specs.declared.limits.TheConstants.{MAX_MOVES}
 use Rattle.mill_board.specs.declared.work.Held.{Held}
 use Rattle.mill_board.specs.Works.{FailsAt, IsDone}
 use Rattle.mill_board.proofs.Outcomes.{fails_least, passes_all, passes_to, passes_under}
-use Rattle.mill_base.specs.declared.tool.Holder.{Holder as OneHolder}
-use Rattle.mill_base.specs.Points.{tri_at}
-use Rattle.mill_sweep.specs.Holders.{HolderIsBlocked, HolderPassesPoint}
+use Rattle.mill_base.specs.Solids.{Solid}
+use Rattle.mill_base.specs.Points.{point_tri, tri_at}
+use Rattle.mill_sweep.specs.Solids.{SolidIsBlocked, SolidPassesPoint}
 use Rattle.mill_dexel.specs.Tops.{Stock as OneStock, top_point_on}
 use Rattle.mill_sweep.specs.declared.leaf.Leaf.{Leaf}
 use Rattle.mill_gouge.specs.Gouges.{ToolPassesPart}
 use Rattle.mill_job.specs.declared.fields.JobFields.{JobFields}
 use Rattle.mill_job.specs.Columns.{row_count}
 use Rattle.mill_job.specs.Jobs.{IsJob, tool_of}
-use Rattle.mill_dexel.specs.Rows.{RowState, fresh_row}
+use Rattle.mill_dexel.specs.Rows.{RowState, cutting, fresh_row, holding}
 use Rattle.mill_dexel.specs.Turns.{CutClearsRow, CutStopsAt, HolderStopsAt, StopsAt as StopsBy, StopsRow, move_at, row_before}
 use Rattle.mill_dexel.specs.declared.fail.RowFail.{RowFail}
 use Rattle.mill_dexel.specs.declared.fail.RowTest.{RowTest}
@@ -45,7 +45,7 @@ use Rattle.mill_verify.proofs.Ranges.{rows_few}
 use Rattle.mill_verify.proofs.ReadLemmas.{move_read}
 use Rattle.mill_verify.proofs.Shown.{IsShown, StopsAt}
 use Rattle.mill_verify.proofs.Sharing.{first_of_block, first_of_row, limit_of_block, limit_of_row, spans}
-use Rattle.mill_verify.proofs.Turned.{HolderPassesTops, RowClears, RowHolderClears, holder_clears_all, row_clears, row_cut_clears, row_holder_clears, row_holder_stops, row_stops}
+use Rattle.mill_verify.proofs.Turned.{HolderPassesTops, RowClears, RowHolderClears, holder_clears_all, row_clears, row_cut_clears, row_holder_clears, row_stops}
 
 there_in : {A : Type 0} → (xs : List A) (n : ℕ) → n < length xs → (x : A) × (slice_get xs n ≡ Some x)
 there_in [] n lt = absurd (omega (lt, arith))
@@ -241,7 +241,7 @@ module _ (job : JobFields) (part : List Tri) (start : Option (List RowState)) (m
         first = f.first.first;
         fails = f.first.fails;
       };
-      shown = for_some (λ (holder : OneHolder). HolderIsBlocked holder (move_at moves least) (tri_at part g.tri) g.leaf) job.holder f.holder f.mounted f.first.blocked;
+      shown = for_some (λ (holder : Solid). SolidIsBlocked holder (move_at moves least) (tri_at part g.tri) g.leaf) job.holder f.holder f.mounted f.first.blocked;
     }
 
     kind_rejects : (v : Kind) (j i : ℕ) (leaf : Leaf) → FailsStockOn job part stock moves v least j i leaf → StopsAt job stock moves v least j i leaf → Rejects (cut_reason v least j i leaf)
@@ -270,7 +270,7 @@ module _ (job : JobFields) (part : List Tri) (start : Option (List RowState)) (m
 
     cut_rejects : (j i : ℕ) (leaf : Leaf) → n ≡ blocks_of w + j → NoCut n → CutStopsAt job (row_before job moves (fresh_row job stock j) least) (move_at moves least) i leaf → Rejects (cut_reason kind least j i leaf)
     cut_rejects j i leaf number none stop =
-        let s = row_stops job stock moves least j i leaf stop in
+        let s = row_stops job stock moves least j (cutting job kind (move_at moves least)) i leaf stop.column stop.blocked in
         let u = under in
         let tool = block_passed n none (omega (number, arith)) in
         kind_rejects kind j i leaf
@@ -281,10 +281,10 @@ module _ (job : JobFields) (part : List Tri) (start : Option (List RowState)) (m
           clears = tool.cutter;
           holder = tool.holder;
           is = refl;
-          tested = s.tested;
+          tested = stop.tested;
           column = record { row = omega (number, u, arith); column = s.column };
           first = λ a b column order. elim order [
-            | inl less ↦ row_cut n a none (omega (less, number, arith)) column.row s.tested b column.column
+            | inl less ↦ row_cut n a none (omega (less, number, arith)) column.row stop.tested b column.column
             | inr same ↦ subst (λ (v : ℕ). PassesColumnOn job stock moves least v b) (sym same.0) (s.before b same.1)
           ];
           fails = s.fails;
@@ -300,7 +300,8 @@ module _ (job : JobFields) (part : List Tri) (start : Option (List RowState)) (m
 
     held_rejects : (j i : ℕ) (leaf : Leaf) → n ≡ blocks_of w + j → NoCut (length hs) → NoneFailedBy test.Holder least hs n → HolderStopsAt job (row_before job moves (fresh_row job stock j) least) (move_at moves least) i leaf → Rejects (HolderStock least j i leaf)
     held_rejects j i leaf number none held stop =
-        let s = row_holder_stops job stock moves least j i leaf stop.holder in
+        let held_stop = stop.holder in
+        let s = row_stops job stock moves least j (holding held_stop.holder (move_at moves least)) i leaf held_stop.column held_stop.blocked in
         let u = under in let count = closed.count in
         let tool = block_passed (length hs) none (omega (u, number, count, arith)) in record {
           of_move = tt;
@@ -311,16 +312,16 @@ module _ (job : JobFields) (part : List Tri) (start : Option (List RowState)) (m
             clears = tool.cutter;
             holder_clears = tool.holder;
             stock = λ tested a b column. row_cut (length hs) a none (let r = column.row in omega (r, count, arith)) column.row tested b column.column;
-            holder = s.holder;
-            mounted = s.mounted;
+            holder = held_stop.holder;
+            mounted = held_stop.there;
             column = record { row = omega (number, u, arith); column = s.column };
             first = λ a b column order. elim order [
-              | inl less ↦ of_some (λ (h : OneHolder). HolderPassesTops h job stock moves least a) job.holder s.holder s.mounted (row_passed a none held (omega (less, number, arith))) b column.column
-              | inr same ↦ subst (λ (v : ℕ). HolderPassesPoint s.holder (move_at moves least) (top_point_on job (stock_met job stock moves least) v b)) (sym same.0) (s.before b same.1)
+              | inl less ↦ of_some (λ (h : Solid). HolderPassesTops h job stock moves least a) job.holder held_stop.holder held_stop.there (row_passed a none held (omega (less, number, arith))) b column.column
+              | inr same ↦ subst (λ (v : ℕ). SolidPassesPoint held_stop.holder (move_at moves least) (top_point_on job (stock_met job stock moves least) v b)) (sym same.0) (s.before b same.1)
             ];
             fails = s.fails;
           };
-          shown = s.blocked;
+          shown = for_some (λ (h : Solid). SolidIsBlocked h (move_at moves least) (point_tri (top_point_on job (stock_met job stock moves least) j i)) leaf) job.holder held_stop.holder held_stop.there s.blocked;
         }
 
     stock_rejects : (j i : ℕ) (leaf : Leaf) (t : RowTest) → n ≡ blocks_of w + j → (t ≡ test.Holder → NoCut (length hs)) → NoneFailedBy t least hs n

@@ -2,8 +2,8 @@
 use Rattle.std.specs.Prelude.{◌≡◌, ℕ, ◌+◌, ◌*◌, ◌/◌, min, List, Option, Some, None}
 use Rattle.mill_base.specs.declared.points.Tri.{Tri}
 use Rattle.mill_base.specs.declared.motion.Move.{Move}
-use Rattle.mill_base.specs.declared.tool.Holder.{Holder}
-use Rattle.mill_gouge.specs.Gouges.{IsFirstGouge, IsFirstHolderGouge, PassesPart}
+use Rattle.mill_base.specs.Solids.{Solid, at_tip}
+use Rattle.mill_gouge.specs.Gouges.{IsFirstGouge, PassesPart}
 use Rattle.mill_gouge.specs.declared.gouge.Gouge.{Gouge}
 use Rattle.mill_job.specs.declared.fields.JobFields.{JobFields}
 use Rattle.mill_dexel.specs.Turns.{move_at}
@@ -31,14 +31,14 @@ turned b = record b { next = b.next + 1 }
 
 -- the cutter clears the part on a move, and the job has a holder that doesn't, first at this gouge
 pub record IsHolderFail (job : JobFields) (part : List Tri) (m : Move) (gouge : Gouge) : Type 0 where
-  pub clears : PassesPart job.cutter m part
-  pub holder : Holder
+  pub clears : PassesPart (at_tip job.cutter) m part
+  pub holder : Solid
   pub mounted : job.holder ≡ Some holder
-  pub first : IsFirstHolderGouge holder m part gouge
+  pub first : IsFirstGouge holder m part gouge
 
 -- how a move fails the tests against the part
 abbrev pub IsPartFail : JobFields → List Tri → Move → PartFail → Type 0
-IsPartFail job part m (fail.Cutter gouge) = IsFirstGouge job.cutter m part gouge
+IsPartFail job part m (fail.Cutter gouge) = IsFirstGouge (at_tip job.cutter) m part gouge
 IsPartFail job part m (fail.Holder gouge) = IsHolderFail job part m gouge
 
 -- the tool doesn't clear the part on the block's next move: how it fails is noted, and the rest is as it was

@@ -4,10 +4,9 @@ use Rattle.mill_base.specs.declared.points.Tri.{Tri}
 use Rattle.mill_base.specs.declared.motion.Move.{Move}
 use Rattle.mill_base.specs.declared.motion.Kind.TheVariants.{Rapid, Feed}
 use Rattle.mill_base.specs.Points.{point_at}
-use Rattle.mill_base.specs.declared.tool.Holder.{Holder}
-use Rattle.mill_base.specs.Contact.{GougesOn, Holds, Removes, IsLeft}
+use Rattle.mill_base.specs.Contact.{GougesOn, Removes, IsLeft}
 use Rattle.mill_base.specs.Motion.{IsMoment, tip_at}
-use Rattle.mill_base.specs.Tools.{HolderGouges, holder_tip, solid_of}
+use Rattle.mill_base.specs.Solids.{Solid, SolidGouges, SolidHolds}
 use Rattle.mill_base.specs.Covers.{Covered, HasPointOver}
 use Rattle.mill_job.specs.declared.fields.JobFields.{JobFields}
 use Rattle.mill_job.specs.Columns.{IsColumn, column_x, column_y}
@@ -64,10 +63,10 @@ abbrev pub KeepsDepthOn : JobFields → Stock → List Move → Type 0
 KeepsDepthOn job start moves = (pos 0) <ℤ job.max_cut → CutsShallow job start moves
 
 -- at no moment of any move is a part point strictly inside the holder, nor a column point that is left as the move meets it
-pub record HolderStaysClear (holder : Holder) (job : JobFields) (part : List Tri) (moves : List Move) (Met : PointsMet) : Type 0 where
-  pub misses_part : (m : Move) (a n : ℤ) → Contains moves m → IsMoment a n → ¬ HolderGouges holder n (tip_at m a n) part
+pub record HolderStaysClear (holder : Solid) (job : JobFields) (part : List Tri) (moves : List Move) (Met : PointsMet) : Type 0 where
+  pub misses_part : (m : Move) (a n : ℤ) → Contains moves m → IsMoment a n → ¬ SolidGouges holder n (tip_at m a n) part
   pub misses_stock : (k j i : ℕ) (h a n : ℤ) → k < length moves → IsColumnPoint job j i h → Met k j i h → IsMoment a n
-      → ¬ Holds (solid_of holder) n (holder_tip holder n (tip_at (move_at moves k) a n)) (pos 1) (point_at (column_x job i) (column_y job j) h)
+      → ¬ SolidHolds holder n (tip_at (move_at moves k) a n) (pos 1) (point_at (column_x job i) (column_y job j) h)
 
 -- so it is of the job's holder, if it has one
 abbrev pub HolderKeepsClearOf : JobFields → List Tri → List Move → PointsMet → Type 0

@@ -4,12 +4,13 @@ use Rattle.mill_base.specs.declared.points.Tri.{Tri}
 use Rattle.mill_base.specs.declared.motion.Move.{Move}
 use Rattle.mill_sweep.specs.Halving.{Passes, PassesPoint}
 use Rattle.mill_base.specs.Covers.{Covered}
+use Rattle.mill_base.specs.Solids.{at_tip}
 use Rattle.mill_job.specs.declared.fields.JobFields.{JobFields}
 use Rattle.mill_job.specs.Columns.{column_x, column_y}
 use Rattle.mill_dexel.specs.Tops.{ClearsColumnsOn, HolderClearsColumnsOn, Stock, stock_after, tested_point_on, uncut}
 use Rattle.mill_dexel.specs.Turns.{move_at}
 use Rattle.mill_base.specs.Points.{tri_at}
-use Rattle.mill_gouge.specs.Gouges.{HolderPassesPart, PassesPart}
+use Rattle.mill_gouge.specs.Gouges.{PassesPart}
 
 -- test (i): both ends of move k are at or over the floor
 pub record IsOverFloor (job : JobFields) (moves : List Move) (k : ℕ) : Type 0 where
@@ -22,11 +23,11 @@ PassesTri job part moves k t = Passes job.cutter (move_at moves k) (tri_at part 
 
 -- test (ii): move k passes each triangle
 abbrev pub ClearsPart : JobFields → List Tri → List Move → ℕ → Type 0
-ClearsPart job part moves k = PassesPart job.cutter (move_at moves k) part
+ClearsPart job part moves k = PassesPart (at_tip job.cutter) (move_at moves k) part
 
 -- test (ii h): where the job has a holder, it passes each triangle on move k
 abbrev pub HolderClearsPart : JobFields → List Tri → List Move → ℕ → Type 0
-HolderClearsPart job part moves k = IfSome job.holder (λ holder. HolderPassesPart holder (move_at moves k) part)
+HolderClearsPart job part moves k = IfSome job.holder (λ holder. PassesPart holder (move_at moves k) part)
 
 -- the stock as move k meets it: after the moves before, from this stock on
 abbrev pub stock_met : JobFields → Stock → List Move → ℕ → Stock
@@ -63,17 +64,9 @@ IsCutOn job part stock j i = Covered part job.floor job.band (column_x job i) (c
 
 -- ---- from the uncut stock on
 
--- test (iii) of one column
-abbrev pub PassesColumn : JobFields → List Move → ℕ → ℕ → ℕ → Type 0
-PassesColumn job moves k j i = PassesColumnOn job (uncut job) moves k j i
-
 -- test (iii) of each column
 abbrev pub ClearsStock : JobFields → List Move → ℕ → Type 0
 ClearsStock job moves k = ClearsStockOn job (uncut job) moves k
-
--- test (iii h)
-abbrev pub HolderClearsStock : JobFields → List Move → ℕ → Type 0
-HolderClearsStock job moves k = HolderClearsStockOn job (uncut job) moves k
 
 -- move k passes all tests of a move
 abbrev pub IsGood : JobFields → List Tri → List Move → ℕ → Type 0

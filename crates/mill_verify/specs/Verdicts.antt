@@ -4,13 +4,11 @@ use Rattle.mill_base.specs.declared.points.Tri.{Tri}
 use Rattle.mill_base.specs.declared.motion.Move.{Move}
 use Rattle.mill_base.specs.declared.motion.Kind.{Kind}
 use Rattle.mill_base.specs.declared.motion.Kind.TheVariants.{Rapid, Feed}
-use Rattle.mill_base.specs.declared.cutter.Cutter.{Cutter}
-use Rattle.mill_base.specs.declared.tool.Holder.{Holder as OneHolder}
-use Rattle.mill_base.specs.Tools.{solid_of}
+use Rattle.mill_base.specs.Solids.{Solid, at_tip}
 use Rattle.mill_base.specs.declared.limits.TheConstants.{MAX_LAST_REACH}
-use Rattle.mill_sweep.specs.Leaves.{reach_of, span_of}
-use Rattle.mill_sweep.specs.Halving.{FailsAt, Blocks}
-use Rattle.mill_sweep.specs.Holders.{HolderFailsAt, HolderPasses, HolderPassesPoint, lifted}
+use Rattle.mill_sweep.specs.Leaves.{reach_of}
+use Rattle.mill_sweep.specs.Halving.{FailsAt}
+use Rattle.mill_sweep.specs.Solids.{SolidFailsAt, SolidIsBlocked, SolidPasses, SolidPassesPoint}
 use Rattle.mill_sweep.specs.declared.leaf.Leaf.{Leaf}
 use Rattle.mill_base.specs.Points.{point_tri, tri_at}
 use Rattle.mill_base.specs.Covers.{IsHighestCovered}
@@ -45,11 +43,11 @@ pub record FailsHolderOn (job : JobFields) (part : List Tri) (start : Stock) (mo
   pub before : GoodBeforeOn job part start moves k
   pub floor : IsOverFloor job moves k
   pub clears : ClearsPart job part moves k
-  pub holder : OneHolder
+  pub holder : Solid
   pub mounted : job.holder ≡ Some holder
   pub tri : t < length part
-  pub first : (e : ℕ) → e < t → HolderPasses holder (move_at moves k) (tri_at part e)
-  pub fails : HolderFailsAt holder (move_at moves k) (tri_at part t) leaf
+  pub first : (e : ℕ) → e < t → SolidPasses holder (move_at moves k) (tri_at part e)
+  pub fails : SolidFailsAt holder (move_at moves k) (tri_at part t) leaf
 
 -- move k, all before it being good, passes tests (i) to (ii h), is of this kind and tested, and fails test (iii) first at column (j, i), at this leaf
 pub record FailsStockOn (job : JobFields) (part : List Tri) (start : Stock) (moves : List Move) (kind : Kind) (k j i : ℕ) (leaf : Leaf) : Type 0 where
@@ -72,11 +70,11 @@ pub record FailsHolderStockOn (job : JobFields) (part : List Tri) (start : Stock
   pub clears : ClearsPart job part moves k
   pub holder_clears : HolderClearsPart job part moves k
   pub stock : ClearsStockOn job start moves k
-  pub holder : OneHolder
+  pub holder : Solid
   pub mounted : job.holder ≡ Some holder
   pub column : IsColumn job j i
-  pub first : (a b : ℕ) → IsColumn job a b → IsBefore a b j i → HolderPassesPoint holder (move_at moves k) (top_point_on job (stock_met job start moves k) a b)
-  pub fails : HolderFailsAt holder (move_at moves k) (point_tri (top_point_on job (stock_met job start moves k) j i)) leaf
+  pub first : (a b : ℕ) → IsColumn job a b → IsBefore a b j i → SolidPassesPoint holder (move_at moves k) (top_point_on job (stock_met job start moves k) a b)
+  pub fails : SolidFailsAt holder (move_at moves k) (point_tri (top_point_on job (stock_met job start moves k) j i)) leaf
 
 -- every move is good, and test (iv) fails first at column (j, i), with this top
 pub record FailsCutOn (job : JobFields) (part : List Tri) (start : Stock) (moves : List Move) (j i : ℕ) (top : ℤ) : Type 0 where
@@ -140,25 +138,25 @@ abbrev pub IsVerdictOn : JobFields → List Tri → Stock → List Move → Verd
 IsVerdictOn job part start moves (Accept count columns left) = AcceptsOn job part start moves count columns left
 IsVerdictOn job part start moves (Reject reason) = IsRejectionOn job part start moves reason
 
--- a leaf of a move is one of the last, with a reach of at most 2, and a triangle blocks it: it comes over the leaf's lower end, and some point of it is
--- strictly inside the leaf's outer cutter
-pub record BlocksLeaf (cutter : Cutter) (move : Move) (leaf : Leaf) (tri : Tri) : Type 0 where
+-- a leaf of a move is one of the last, with a reach of at most 2, and a triangle blocks a solid on it: the triangle comes over the lower end of the leaf that
+-- the solid's own tip makes, and some point of it is strictly inside that leaf's outer cutter
+pub record BlocksLeaf (solid : Solid) (move : Move) (leaf : Leaf) (tri : Tri) : Type 0 where
   pub last : reach_of move leaf.d leaf.k ≤ MAX_LAST_REACH
-  pub blocks : Blocks cutter (span_of move leaf.d leaf.k) tri
+  pub blocks : SolidIsBlocked solid move tri leaf
 
 -- triangle t blocks this leaf of move k
 abbrev pub BlocksMove : JobFields → List Tri → List Move → ℕ → ℕ → Leaf → Type 0
-BlocksMove job part moves k t leaf = BlocksLeaf job.cutter (move_at moves k) leaf (tri_at part t)
+BlocksMove job part moves k t leaf = BlocksLeaf (at_tip job.cutter) (move_at moves k) leaf (tri_at part t)
 
 -- the point of column (j, i) at which a move of this kind is tested after the moves before move k blocks this leaf of that move
 abbrev pub StopsMoveOn : JobFields → Stock → List Move → Kind → ℕ → ℕ → ℕ → Leaf → Type 0
-StopsMoveOn job start moves kind k j i leaf = BlocksLeaf job.cutter (move_at moves k) leaf (point_tri (tested_point_on job kind (stock_met job start moves k) j i))
+StopsMoveOn job start moves kind k j i leaf = BlocksLeaf (at_tip job.cutter) (move_at moves k) leaf (point_tri (tested_point_on job kind (stock_met job start moves k) j i))
 
--- the job has a holder, and on this leaf of move k, as its own tip makes it, this triangle blocks it
+-- the job has a holder, and on this leaf of move k this triangle blocks it
 pub record BlocksHolder (job : JobFields) (moves : List Move) (k : ℕ) (leaf : Leaf) (tri : Tri) : Type 0 where
-  pub holder : OneHolder
+  pub holder : Solid
   pub mounted : job.holder ≡ Some holder
-  pub blocks : BlocksLeaf (solid_of holder) (lifted holder (move_at moves k)) leaf tri
+  pub blocks : BlocksLeaf holder (move_at moves k) leaf tri
 
 -- triangle t blocks the holder on this leaf of move k
 abbrev pub BlocksHolderMove : JobFields → List Tri → List Move → ℕ → ℕ → Leaf → Type 0
@@ -199,14 +197,6 @@ IsRejection job part moves reason = IsRejectionOn job part (uncut job) moves rea
 -- the first failing test, or acceptance
 abbrev pub IsVerdict : JobFields → List Tri → List Move → Verdict → Type 0
 IsVerdict job part moves verdict = IsVerdictOn job part (uncut job) moves verdict
-
--- the tested point of column (j, i) blocks this leaf of move k
-abbrev pub StopsMove : JobFields → List Move → Kind → ℕ → ℕ → ℕ → Leaf → Type 0
-StopsMove job moves kind k j i leaf = StopsMoveOn job (uncut job) moves kind k j i leaf
-
--- the point at the top of column (j, i) blocks the holder on this leaf of move k
-abbrev pub StopsHolderMove : JobFields → List Move → ℕ → ℕ → ℕ → Leaf → Type 0
-StopsHolderMove job moves k j i leaf = StopsHolderMoveOn job (uncut job) moves k j i leaf
 
 -- a job, a part and a list of moves have at most one verdict
 abbrev pub OneVerdict : Type 0

@@ -5,8 +5,8 @@ ghost use Rattle.mill_gouge.specs.Gouges.{ToolPassesPart};
 ghost use Rattle.mill_job.specs.Jobs.{tool_of};
 ghost use Rattle.mill_verify.specs.Blocks.{IsBlockStopped, IsPartFail, block_count, block_of, turned};
 
-use mill_base::Move;
-use mill_gouge::{Gouge, first_gouge, first_holder_gouge};
+use mill_base::{Move, Solid};
+use mill_gouge::{Gouge, first_gouge};
 use mill_job::Job;
 use mill_part::SortedPart;
 use std::marker::Model;
@@ -126,10 +126,10 @@ pub fn part_fail(job: &Job, part: &SortedPart, step: &Move) -> Option<PartFail>
         (ToolPassesPart (tool_of job.now.fields) step.now part.now)
         (IsPartFail job.now.fields part.now step.now) }
 {
-    if let Some(gouge) = first_gouge(job.fields.cutter, part, step) {
+    if let Some(gouge) = first_gouge(Solid::at_tip(job.fields.cutter), part, step) {
         return Some(PartFail::Cutter(gouge));
     }
     let holder = job.fields.holder?;
-    let gouge = first_holder_gouge(&holder, part, step)?;
+    let gouge = first_gouge(holder, part, step)?;
     Some(PartFail::Holder(gouge))
 }

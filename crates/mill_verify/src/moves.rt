@@ -16,7 +16,7 @@ use mill_board::Closed;
 use mill_dexel::Row;
 use mill_job::Job;
 use mill_part::SortedPart;
-use mill_sweep::{failing_is_blocked, holder_failing_is_blocked};
+use mill_sweep::failing_is_blocked;
 use std::alloc::Global;
 
 /// Tests (i) to (iii h) of a program from this stock on: the rows of the stock that all moves leave, or the
@@ -65,9 +65,8 @@ fn told_by(
         (λ rows. ArePassed job.now.fields part.now (stock_of job.now.fields start.now) moves.now rows.items)
         (IsStopped job.now.fields part.now (stock_of job.now.fields start.now) moves.now)) }
 {
-    // Laws without code: a leaf that fails, of the cutter or of the holder, is one of the last of its move.
+    // A law without code: a leaf that fails, of the cutter or of the holder, is one of the last of its move.
     failing_is_blocked();
-    holder_failing_is_blocked();
     let Closed { least, pieces } = closed;
     if let Some(number) = first_failed(&pieces, least) {
         let kind = moves[least as usize].kind;

@@ -143,13 +143,12 @@ fn second_block(job: &Job, part: &SortedPart, moves: &[Move], turns: u64) -> (Bl
     (block, passes)
 }
 
-fn told_turns(alloc: Global, moves: &[Move], turns: u64) -> Result<String, Fail>
+fn told_turns(alloc: Global, job: &Job, moves: &[Move], turns: u64) -> Result<String, Fail>
     requires moves_ok { MovesInRange moves.now }
     requires count { length moves.now ≡ 100 }
 {
-    let job = job_of(alloc, FLAT_BLOCK, "")?;
     let part = part_of(alloc, PLATE)?;
-    let (block, passes) = second_block(&job, &part, moves, turns);
+    let (block, passes) = second_block(job, &part, moves, turns);
     told_block(alloc, &block, passes)
 }
 
@@ -159,7 +158,9 @@ fn look_at_turns<R: Abort + AllocGlobal>(rt: &R, moves: &[Move], row: &str) -> R
 {
     let (turns, wanted) = halves(row)?;
     let turns: u64 = turns.parse()?;
-    same(rt, &told_turns(rt.alloc(), moves, turns)?, wanted, row);
+    let job = job_of(rt.alloc(), FLAT_BLOCK, "")?;
+    let told = told_turns(rt.alloc(), &job, moves, turns)?;
+    same(rt, &told, wanted, row);
     Ok(())
 }
 
@@ -189,11 +190,10 @@ fn only_block(job: &Job, part: &SortedPart, moves: &[Move]) -> (Block, bool)
     (block, passes)
 }
 
-fn told_held(alloc: Global) -> Result<String, Fail> {
-    let job = job_of(alloc, NARROW_BLOCK, "")?;
+fn told_held(alloc: Global, job: &Job) -> Result<String, Fail> {
     let part = part_of(alloc, LINE)?;
     let moves = plunges(alloc, "feed 100 100 100", 1)?;
-    let (block, passes) = only_block(&job, &part, &moves);
+    let (block, passes) = only_block(job, &part, &moves);
     told_block(alloc, &block, passes)
 }
 
@@ -202,6 +202,11 @@ const HELD: &str = "fails (0, 1, 0), holder at 0, Leaf { d: 9, k: 426 }";
 // The holder's face comes down to the line where the tip is at 150.
 #[test]
 fn keeps_the_gouge_of_the_holder(rt: HostRuntime) -> Result<(), Fail> {
-    same(&rt, &told_held(rt.alloc())?, HELD, "held");
+    look_at_held(&rt)
+}
+
+fn look_at_held<R: Abort + AllocGlobal>(rt: &R) -> Result<(), Fail> {
+    let job = job_of(rt.alloc(), NARROW_BLOCK, "")?;
+    same(rt, &told_held(rt.alloc(), &job)?, HELD, "held");
     Ok(())
 }

@@ -1,15 +1,14 @@
 -- The band that a move stands in, rows that go over a band, and the columns of a row that a test needs not be tried at.
-use Rattle.std.specs.Prelude.{◌≡◌, ℕ, ◌<◌, ◌≤◌, ℤ, pos, ◌+ℤ◌, List, IfSome}
-use Rattle.mill_base.specs.Sizes.{radius_of}
+use Rattle.std.specs.Prelude.{◌≡◌, ℕ, ◌<◌, ◌≤◌, ℤ, List, IfSome}
+use Rattle.mill_base.specs.Solids.{Solid}
 use Rattle.mill_base.specs.declared.motion.Move.{Move}
 use Rattle.mill_base.specs.declared.motion.Kind.{Kind}
-use Rattle.mill_base.specs.declared.limits.TheConstants.{MAX_LAST_REACH}
 use Rattle.mill_job.specs.declared.fields.JobFields.{JobFields}
-use Rattle.mill_sweep.specs.Sweeps.{Swept}
+use Rattle.mill_sweep.specs.Reach.{margin_of}
 use Rattle.mill_job.specs.Columns.{column_count, column_y}
 use Rattle.mill_dexel.specs.declared.band.Band.{Band}
 use Rattle.mill_dexel.specs.Rows.{RowState, Test, PassesAt}
-use Rattle.mill_dexel.specs.Cuts.{IsBeyond}
+use Rattle.mill_dexel.specs.inner.Cuts.{IsBeyond}
 use Rattle.mill_dexel.specs.Bands.{IsBand}
 
 -- the band has move t in it, and none from the first so many on
@@ -21,8 +20,8 @@ pub record IsBandAround (moves : List Move) (count t : ℕ) (band : Band) : Type
 
 -- a row at y is at least the cutter's radius and 2 away from the interval from a to b, and the radius of the holder, if there is one, and 2
 pub record IsAway (job : JobFields) (a b y : ℤ) : Type 0 where
-  pub cut : IsBeyond (radius_of job.cutter +ℤ pos MAX_LAST_REACH) a b y
-  pub holder : IfSome job.holder (λ holder. IsBeyond (holder.radius +ℤ pos MAX_LAST_REACH) a b y)
+  pub cut : IsBeyond (margin_of job.cutter) a b y
+  pub holder : IfSome job.holder (λ holder. IsBeyond (margin_of holder.cutter) a b y)
 
 -- the row goes over the moves of a band at once, which stays that far away from it
 pub record PassesOver (job : JobFields) (band : Band) (old new : RowState) : Type 0 where
@@ -31,9 +30,9 @@ pub record PassesOver (job : JobFields) (band : Band) (old new : RowState) : Typ
   pub away : IsAway job band.low band.high (column_y job old.row)
   pub is : new ≡ record old { done = band.«end» }
 
--- a cutter on a move, or a holder's solid on that of its own tip, tried at the heights of a kind
-abbrev pub trying : Swept → Kind → Test
-trying s kind = record { solid = s.cutter; move = s.move; kind = kind }
+-- a solid on a move, tried at the heights of a kind
+abbrev pub trying : Solid → Kind → Move → Test
+trying solid kind m = record { solid = solid; move = m; kind = kind }
 
 -- a test passes the columns of a row before this one, and those from that one on
 pub record PassesBeside (job : JobFields) (test : Test) (r : RowState) (first «end» : ℕ) : Type 0 where

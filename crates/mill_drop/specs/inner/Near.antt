@@ -5,7 +5,7 @@ use Rattle.mill_base.specs.declared.points.Tri.{Tri}
 use Rattle.mill_base.specs.declared.points.Box2.{Box2}
 use Rattle.mill_base.specs.declared.cutter.Cutter.{Cutter}
 use Rattle.mill_cells.specs.Boxes.{Meet, box_of}
-use Rattle.mill_drop.specs.inner.Cutters.{TouchesAt}
+use Rattle.mill_drop.specs.inner.Solids.{TouchesAt}
 
 -- the square about (x, y) that is two radii wide, in which a cutter over it is
 abbrev pub square_about : Cutter → ℤ → ℤ → Box2

@@ -1,13 +1,8 @@
 -- The parts of a test.
-use Rattle.std.specs.Prelude.{ℤ, pos, ◌≤ℤ◌}
+use Rattle.std.specs.Prelude.{pos, ◌≤ℤ◌}
 use Rattle.mill_base.specs.Numbers.{Within}
 use Rattle.mill_base.specs.declared.limits.TheConstants.{MAX_COORDINATE}
 use Rattle.mill_ffi_data.specs.declared.raw.RawLattice.{RawLattice}
-
--- a holder's lower face is in range over the tip
-pub record IsStickout (stickout : ℤ) : Type 0 where
-  pub some : (pos 1) ≤ℤ stickout
-  pub within : stickout ≤ℤ pos MAX_COORDINATE
 
 -- the ends of a lattice are in range
 pub record IsCorners (raw : RawLattice) : Type 0 where

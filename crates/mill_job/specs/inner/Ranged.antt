@@ -1,7 +1,7 @@
 -- What is known of a job's values before its relations are.
-use Rattle.std.specs.Prelude.{◌≡◌, ◌≤◌, ℤ, pos, ◌<ℤ◌, List, length, AllPairs, IfSome, IsSome}
+use Rattle.std.specs.Prelude.{◌≡◌, ◌≤◌, ℤ, pos, ◌<ℤ◌, ◌≤ℤ◌, List, length, AllPairs, IfSome, IsSome}
 use Rattle.mill_base.specs.Numbers.{Within}
-use Rattle.mill_base.specs.Tools.{IsHolder}
+use Rattle.mill_base.specs.Solids.{IsSolid}
 use Rattle.mill_base.specs.Units.{greatest_of}
 use Rattle.mill_base.specs.declared.limits.TheConstants.{MAX_RADIUS}
 use Rattle.mill_job.specs.Jobs.{IsFrom}
@@ -61,5 +61,6 @@ pub record ArePaths (unit : Unit) (paths : Paths) : Type 0 where
 
 pub record AreExtras (unit : Unit) (extras : Extras) : Type 0 where
   pub max_cut_ok : IsFrom (pos 0) (pos (greatest_of unit)) extras.max_cut
-  pub holder_ok : IfSome extras.holder IsHolder
+  pub holder_ok : IfSome extras.holder IsSolid
+  pub stickout : IfSome extras.holder (λ holder. (pos 1) ≤ℤ holder.lift)
   pub path_tol_ok : IfSome extras.path_tol (IsFrom (pos 0) MAX_DISTANCE)

@@ -39,7 +39,7 @@ pub record IsCut (job : JobFields) : Type 0 where
   pub narrow : job.band ≤ℤ radius_of job.cutter
   pub layers : HasFewLayers job
   pub levels : All (IsLevel job.floor job.top) job.levels
-  pub wider : IfSome job.holder (λ holder. radius_of job.cutter <ℤ holder.radius)
+  pub wider : IfSome job.holder (λ holder. radius_of job.cutter <ℤ radius_of holder.cutter)
 
 -- all of them hold
 pub record IsRelated (job : JobFields) : Type 0 where

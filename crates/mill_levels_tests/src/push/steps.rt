@@ -7,7 +7,7 @@ ghost use Rattle.mill_base.specs.Ranges.{IsInRange, TriInRange};
 ghost use Rattle.mill_push.specs.Touches.{IsFiber};
 
 use super::told;
-use mill_base::{Cutter, Pt3, Steps, Tool, Tri};
+use mill_base::{Cutter, Pt3, Solid, Steps, Tool, Tri};
 use mill_part::{Part, SortedPart};
 use mill_push::{Axis, Fiber, Run, Side, Touch, counted_touch, push};
 use std::marker::Brand;
@@ -106,7 +106,7 @@ fn over_point<L: Ledger, R: AllocGlobal>(
     ensures over { (pos 300) ≤ℤ z → steps.new ≤ steps.old }
 {
     let part = part_of(rt, point(500))?;
-    let tool = Tool::bare(FLAT);
+    let tool = Tool::bare(Solid::at_tip(FLAT));
     let runs = push(
         rt.alloc(),
         &part,

@@ -2,14 +2,12 @@
 use Rattle.std.specs.Prelude.{◌≡◌, ℕ, ◌<◌, List, length, Option, None, Some, MatchOption, slice_index_or}
 use Rattle.mill_base.specs.Points.{point_tri}
 use Rattle.mill_base.specs.declared.motion.Move.{Move}
-use Rattle.mill_base.specs.declared.tool.Holder.{Holder as OneHolder}
-use Rattle.mill_sweep.specs.Halving.{Blocks, FailsAt, PassesPoint}
-use Rattle.mill_sweep.specs.Holders.{HolderFailsAt, HolderIsBlocked, HolderPassesPoint}
-use Rattle.mill_sweep.specs.Leaves.{span_of}
+use Rattle.mill_base.specs.Solids.{Solid}
+use Rattle.mill_sweep.specs.Solids.{SolidFailsAt, SolidIsBlocked, SolidPassesPoint}
 use Rattle.mill_job.specs.declared.fields.JobFields.{JobFields}
 use Rattle.mill_job.specs.Columns.{IsBefore, IsColumn}
-use Rattle.mill_dexel.specs.Rows.{HolderClearsRow, IsFirstHolderStop, RowState, uncut_row}
-use Rattle.mill_dexel.specs.Tops.{ClearsColumnsOn, HolderClearsColumnsOn, IsTested, Stock, tested_point_on, top_point_on, uncut}
+use Rattle.mill_dexel.specs.Rows.{HolderClearsRow, IsFirstHolderStop, RowState, Test, cutting, holding, uncut_row}
+use Rattle.mill_dexel.specs.Tops.{ClearsColumnsOn, HolderClearsColumnsOn, IsTested, Stock, tested_point_on, uncut}
 use Rattle.mill_dexel.specs.Turns.{CutClearsRow, CutStopsAt, move_at, row_before}
 use Rattle.mill_dexel.specs.declared.fail.RowFail.{RowFail}
 use Rattle.mill_dexel.specs.declared.fail.RowTest.{RowTest}
@@ -24,23 +22,24 @@ pub record PassesStock (job : JobFields) (stock : Stock) (m : Move) : Type 0 whe
   pub cut : ClearsColumnsOn job stock m
   pub holder : HolderClearsColumnsOn job stock m
 
+-- the test of a solid fails on a stock first at the stop's column, whose tested point blocks the stop's leaf
+pub record IsColumnStop (job : JobFields) (stock : Stock) (test : Test) (stop : Stop) : Type 0 where
+  pub column : IsColumn job stop.row stop.col
+  pub first : (a b : ℕ) → IsColumn job a b → IsBefore a b stop.row stop.col → SolidPassesPoint test.solid test.move (tested_point_on job test.kind stock a b)
+  pub fails : SolidFailsAt test.solid test.move (point_tri (tested_point_on job test.kind stock stop.row stop.col)) stop.leaf
+  pub blocked : SolidIsBlocked test.solid test.move (point_tri (tested_point_on job test.kind stock stop.row stop.col)) stop.leaf
+
 -- a move fails test (iii) on a stock first at the stop's column, whose tested point blocks the stop's leaf
 pub record IsCutStop (job : JobFields) (stock : Stock) (m : Move) (stop : Stop) : Type 0 where
   pub tested : IsTested job m.kind
-  pub column : IsColumn job stop.row stop.col
-  pub first : (a b : ℕ) → IsColumn job a b → IsBefore a b stop.row stop.col → PassesPoint job.cutter m (tested_point_on job m.kind stock a b)
-  pub fails : FailsAt job.cutter m (point_tri (tested_point_on job m.kind stock stop.row stop.col)) stop.leaf
-  pub blocked : Blocks job.cutter (span_of m stop.leaf.d stop.leaf.k) (point_tri (tested_point_on job m.kind stock stop.row stop.col))
+  pub at : IsColumnStop job stock (cutting job m.kind m) stop
 
 -- it passes test (iii), and fails test (iii h) first at the stop's column, whose top blocks the stop's leaf
 pub record IsHolderStop (job : JobFields) (stock : Stock) (m : Move) (stop : Stop) : Type 0 where
   pub cut : ClearsColumnsOn job stock m
-  pub holder : OneHolder
+  pub holder : Solid
   pub mounted : job.holder ≡ Some holder
-  pub column : IsColumn job stop.row stop.col
-  pub first : (a b : ℕ) → IsColumn job a b → IsBefore a b stop.row stop.col → HolderPassesPoint holder m (top_point_on job stock a b)
-  pub fails : HolderFailsAt holder m (point_tri (top_point_on job stock stop.row stop.col)) stop.leaf
-  pub blocked : HolderIsBlocked holder m (point_tri (top_point_on job stock stop.row stop.col)) stop.leaf
+  pub at : IsColumnStop job stock (holding holder m) stop
 
 -- so it is by the test that the stop names
 abbrev pub StopsBy : RowTest → JobFields → Stock → Move → Stop → Type 0

@@ -3,7 +3,7 @@ use Rattle.std.proofs.lemmas.Int.{ints}
 use Rattle.mill_base.specs.Sizes.{radius_of}
 use Rattle.mill_job.specs.Columns.{column_y}
 use Rattle.mill_dexel.specs.Samples.{split_of}
-use Rattle.mill_dexel.specs.Cuts.{IsCutBy}
+use Rattle.mill_dexel.specs.inner.Cuts.{IsCutBy}
 use Rattle.mill_dexel.proofs.Again.{first_starts}
 use Rattle.mill_dexel.proofs.CutRows.{samples_go_on, samples_end}
 use Rattle.mill_dexel.proofs.Beyond.{move_keeps}

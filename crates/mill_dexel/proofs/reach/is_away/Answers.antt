@@ -11,4 +11,4 @@ returns-in-None c = λ yes.
 pub returns-in-Some : goal.returns-in-Some
 returns-in-Some c = λ yes.
     away_same c.args.job.now.fields _ _ _ c.args.from c.args.to c.args.y (omega (arith, ints)) (omega (arith, ints)) (omega (arith, ints))
-    (away_held c.args.job.now.fields _ _ _ c.in-Some.holder c.args.job.now.is_job c.in-Some.is (c.is_holder_apart.ensures yes))
+    (away_held c.args.job.now.fields _ _ _ c.in-Some.holder c.args.job.now.is_job c.in-Some.is (rw c.cutter.ensures.value at (c.is_apart-in-Some.ensures yes)))

@@ -2,7 +2,7 @@ use Rattle.mill_dexel.proofs.Reaches.{passes_beyond, beyond_fits}
 use Rattle.mill_dexel.proofs.reach.passing_distance.Goals as goal
 
 pub overflow_add-result : goal.overflow_add-result
-overflow_add-result c = beyond_fits c.args.job.now.fields.cutter c.radius.result c.args.job.now.is_job.cutter_ok c.radius.ensures
+overflow_add-result c = beyond_fits c.args.cutter c.radius.result c.requires c.radius.ensures
 
 pub returns : goal.returns
-returns c = passes_beyond c.args.job.now.fields.cutter c.radius.result c.args.job.now.is_job.cutter_ok c.radius.ensures
+returns c = passes_beyond c.args.cutter c.radius.result c.requires c.radius.ensures

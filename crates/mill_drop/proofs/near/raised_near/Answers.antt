@@ -2,13 +2,13 @@ use Rattle.std.proofs.Common.{FitsSigned, rules, to_z}
 use Rattle.std.proofs.lemmas.List.Elements.{Contains-get_or}
 use mir.Syntax.{w32}
 use Rattle.std.proofs.lemmas.Int.{to_z-of_z}
-use Rattle.mill_base.proofs.Ranges.{coordinate}
 use Rattle.mill_drop.proofs.Dropping.{no_tri, raise_starts, next_within, raise_goes_on, raise_ends}
+use Rattle.mill_drop.proofs.Stored.{tip_stored}
 use Rattle.mill_drop.proofs.near.raised_near.Goals as goal
 
 pub loop-number-init : goal.loop-number-init
 loop-number-init c =
-    let from = coordinate c.args.from c.requires.from_ok in
+    let from = tip_stored c.args.from c.requires.from_ok in
     rw (from, c.tris-tris.ensures.list, c.part.ensures) (raise_starts c.args.spindle.cutter c.args.part.now no_tri c.args.area c.args.spindle.x c.args.spindle.y c.args.from c.cells.result.now c.near_rising-near.result
     c.requires.from_ok c.cells.ensures c.near_rising-near.ensures.tops c.near_rising-near.ensures.each)
 
@@ -32,7 +32,7 @@ loop-number-preserved c =
 
 pub returns-clause-raised : goal.returns-clause-raised
 returns-clause-raised c =
-    let from = coordinate c.args.from c.requires.from_ok in
+    let from = tip_stored c.args.from c.requires.from_ok in
     let before = rw (from, c.tris-tris.ensures.list, c.part.ensures) at c.loop-number.invariant in
     before.raised
 

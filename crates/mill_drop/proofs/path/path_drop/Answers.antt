@@ -17,7 +17,8 @@ pub places_of-requires-clause-heights_ok : goal.places_of-requires-clause-height
 places_of-requires-clause-heights_ok c =
     let heights = c.in_ok-heights.heights.items in
     let are = along_row c.args.tool.now c.args.part.now c.args.y c.args.x0 c.args.x1 c.args.floor c.row.result heights c.requires.row_ok c.requires.floor_ok c.row.ensures c.in_ok-heights.ensures.heights in
-    rw c.deref.ensures.value (are_heights c.args.tool.now c.args.part.now c.args.y c.args.x0 c.args.x1 c.args.floor heights c.requires.row_ok are c.in_ok-heights.ensures.bound)
+    rw c.deref.ensures.value (are_heights c.args.tool.now c.args.part.now c.args.y c.args.x0 c.args.x1 c.args.floor heights c.requires.row_ok are
+    (rw (coordinate c.args.floor c.requires.floor_ok) at c.in_ok-heights.ensures.bound))
 
 pub places_of-requires-clause-some : goal.places_of-requires-clause-some
 places_of-requires-clause-some c =
@@ -29,7 +30,8 @@ pub tips-requires-clause-heights_ok : goal.tips-requires-clause-heights_ok
 tips-requires-clause-heights_ok c =
     let heights = c.in_ok-heights.heights.items in
     let are = along_row c.args.tool.now c.args.part.now c.args.y c.args.x0 c.args.x1 c.args.floor c.row.result heights c.requires.row_ok c.requires.floor_ok c.row.ensures c.in_ok-heights.ensures.heights in
-    rw c.deref-2.ensures.value (are_heights c.args.tool.now c.args.part.now c.args.y c.args.x0 c.args.x1 c.args.floor heights c.requires.row_ok are c.in_ok-heights.ensures.bound)
+    rw c.deref-2.ensures.value (are_heights c.args.tool.now c.args.part.now c.args.y c.args.x0 c.args.x1 c.args.floor heights c.requires.row_ok are
+    (rw (coordinate c.args.floor c.requires.floor_ok) at c.in_ok-heights.ensures.bound))
 
 pub tips-requires-clause-places_ok : goal.tips-requires-clause-places_ok
 tips-requires-clause-places_ok c =

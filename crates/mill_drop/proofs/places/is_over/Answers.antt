@@ -2,7 +2,7 @@ use Rattle.std.proofs.Common.{◌<◌, arith, w32, w64, length}
 use Rattle.std.proofs.lemmas.Int.{to_z-of_z}
 use lib.IntN.{◌+ℤ◌}
 use Rattle.mill_drop.specs.Paths.{height_at}
-use Rattle.mill_drop.proofs.Straightness.{height_within, height_stored, tolerance_stored, raised_fits, raised_small, product_fits, line_fits, second_decides}
+use Rattle.mill_drop.proofs.Straightness.{height_in, height_stored, tolerance_stored, raised_fits, raised_small, product_fits, line_fits, second_decides}
 use Rattle.mill_drop.proofs.places.is_over.Goals as goal
 
 pub overflow_add-height : goal.overflow_add-height
@@ -11,14 +11,14 @@ overflow_add-height c =
     let k = c.args.k in
     let inside : k < length heights = let b = c.requires.before in let i = c.requires.inside in omega arith in
     rw (height_stored heights k c.requires.heights_ok inside, tolerance_stored c.args.tol c.requires.tol_ok)
-    (raised_fits (height_at heights k) c.args.tol (height_within heights k c.requires.heights_ok inside) c.requires.tol_ok)
+    (raised_fits (height_at heights k) c.args.tol (height_in heights k c.requires.heights_ok inside) c.requires.tol_ok)
 
 pub scaled-requires-then-scaled-line-clause-height_ok : goal.scaled-requires-then-scaled-line-clause-height_ok
 scaled-requires-then-scaled-line-clause-height_ok c =
     let heights = c.args.heights.now in
     let k = c.args.k in
     let inside : k < length heights = let b = c.requires.before in let i = c.requires.inside in omega arith in
-    let within = height_within heights k c.requires.heights_ok inside in
+    let within = height_in heights k c.requires.heights_ok inside in
     rw (
       height_stored heights k c.requires.heights_ok inside,
       tolerance_stored c.args.tol c.requires.tol_ok,
@@ -30,7 +30,7 @@ returns-then-scaled-line c =
     let heights = c.args.heights.now in
     let k = c.args.k in
     let inside : k < length heights = let b = c.requires.before in let i = c.requires.inside in omega arith in
-    let within = height_within heights k c.requires.heights_ok inside in
+    let within = height_in heights k c.requires.heights_ok inside in
     let at = height_stored heights k c.requires.heights_ok inside in
     let tol = tolerance_stored c.args.tol c.requires.tol_ok in
     let line = to_z-of_z w64 c.line_over-line.result (line_fits c.line_over-line.result c.line_over-line.ensures.bound) in

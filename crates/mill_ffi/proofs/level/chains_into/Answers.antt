@@ -14,8 +14,8 @@ returns-in_err-found-clause-cause c =
 
 pub returns-then-chains-len-clause-cause : goal.returns-then-chains-len-clause-cause
 returns-then-chains-len-clause-cause c =
-    let same : tool_of c.args.tool.now ≡ Some c.in_ok-cutting.cutting = search rules in
-    let are : AreChainsAt c.in_ok-cutting.cutting (tris_of c.args.triangles.now) c.args.z (lattice_of c.args.lattice.now) c.in_ok-found.found.chains.items c.in_ok-found.found.points.items = search rules in
+    let same : tool_of c.args.tool.now ≡ Some c.in-Ok.cutting = search rules in
+    let are : AreChainsAt c.in-Ok.cutting (tris_of c.args.triangles.now) c.args.z (lattice_of c.args.lattice.now) c.in_ok-found.found.chains.items c.in_ok-found.found.points.items = search rules in
     let told : RawCounts = record { chains = c.len.result; points = c.len-2.result } in
     let told_ok : told ≡ counts_of c.in_ok-found.found.chains.items c.in_ok-found.found.points.items = search rules in
     let other : length c.args.chains.now ≢ length c.in_ok-found.found.chains.items = search rules in
@@ -24,8 +24,8 @@ returns-then-chains-len-clause-cause c =
 
 pub returns-then-points-len-clause-cause : goal.returns-then-points-len-clause-cause
 returns-then-points-len-clause-cause c =
-    let same : tool_of c.args.tool.now ≡ Some c.in_ok-cutting.cutting = search rules in
-    let are : AreChainsAt c.in_ok-cutting.cutting (tris_of c.args.triangles.now) c.args.z (lattice_of c.args.lattice.now) c.in_ok-found.found.chains.items c.in_ok-found.found.points.items = search rules in
+    let same : tool_of c.args.tool.now ≡ Some c.in-Ok.cutting = search rules in
+    let are : AreChainsAt c.in-Ok.cutting (tris_of c.args.triangles.now) c.args.z (lattice_of c.args.lattice.now) c.in_ok-found.found.chains.items c.in_ok-found.found.points.items = search rules in
     let told : RawCounts = record { chains = c.len.result; points = c.len-2.result } in
     let told_ok : told ≡ counts_of c.in_ok-found.found.chains.items c.in_ok-found.found.points.items = search rules in
     let other : length c.args.points.now ≢ length c.in_ok-found.found.points.items = search rules in

@@ -6,7 +6,7 @@ returns-then-not-clears c = cutter_stops c.args.tool.now c.args.step.now c.args.
 
 pub returns-in-Some : goal.returns-in-Some
 returns-in-Some c =
-    held_passes c.args.tool.now c.args.step.now c.args.part.now c.in-Some.holder c.holder_clears.result c.in-Some.is (c.clears.ensures.0 c.if-not-clears.false) c.holder_clears.ensures
+    held_passes c.args.tool.now c.args.step.now c.args.part.now c.in-Some.holder c.clears-in-Some.result c.in-Some.is (c.clears.ensures.0 c.if-not-clears.false) c.clears-in-Some.ensures
 
 pub returns-in-None : goal.returns-in-None
 returns-in-None c = bare_passes c.args.tool.now c.args.step.now c.args.part.now c.in-None.is (c.clears.ensures.0 c.if-not-clears.false)

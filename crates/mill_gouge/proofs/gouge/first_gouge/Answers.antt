@@ -1,17 +1,13 @@
-use Rattle.std.proofs.Common.{rules, ◌∙◌, w32, to_z, of_z}
+use Rattle.std.proofs.Common.{rules, w32}
 use Rattle.std.proofs.lemmas.Int.{to_z-of_z}
-use Rattle.mill_gouge.proofs.Looking.{over_clears, is_over, outside_move, first_swept}
+use Rattle.mill_gouge.proofs.Looking.{first_swept}
 use Rattle.mill_gouge.proofs.gouge.first_gouge.Goals as goal
 
-pub returns-then-low-lid : goal.returns-then-low-lid
-returns-then-low-lid c =
-    over_clears c.args.cutter c.args.step.now c.args.part.now c.lid.result (rw c.part.ensures at c.lid.ensures)
-    (is_over c.lid.result c.reach_box-low.result.1 _ _ _ (to_z-of_z w32 c.lid.result (search rules)) (to_z-of_z w32 c.reach_box-low.result.1 (search rules)) c.reach_box-low.ensures.low c.if-low-lid.true)
-
 pub first_of-requires : goal.first_of-requires
-first_of-requires c =
-    outside_move _ c.args.cutter c.args.step.now c.reach_box-low.result.0 (to_z w32 (of_z w32 c.reach_box-low.result.1)) c.new.ensures c.reach_box-low.ensures.area
-    (to_z-of_z w32 c.reach_box-low.result.1 (search rules) ∙ c.reach_box-low.ensures.low) c.requires.cutter_ok c.requires.move_ok
+first_of-requires c = rw (to_z-of_z w32 c.in-Some.reach.low (search rules)) c.in-Some.ensures.outside
 
-pub returns : goal.returns
-returns c = first_swept c.first_of.result _ _ c.args.part.now c.new.ensures c.first_of.ensures
+pub returns-in-Some : goal.returns-in-Some
+returns-in-Some c = first_swept _ c.args.solid c.args.step.now c.args.part.now c.in-Some.ensures.sweep c.first_of.result c.first_of.ensures
+
+pub returns-in-None : goal.returns-in-None
+returns-in-None c = rw c.part.ensures at c.in-None.ensures

@@ -10,7 +10,7 @@ use Rattle.mill_level.proofs.fiber.fiber_runs.Goals as goal
 
 pub counted_runs-requires-clause-fiber_ok : goal.counted_runs-requires-clause-fiber_ok
 counted_runs-requires-clause-fiber_ok c =
-    rw (stored c.args.at c.requires.at_ok, stored c.args.cut.now.z c.requires.cut_ok.z_ok) (record { at_ok = c.requires.at_ok; z_ok = c.requires.cut_ok.z_ok })
+    rw (stored c.args.at c.requires.at_ok, stored c.args.cut.now.z c.requires.z_ok) (record { at_ok = c.requires.at_ok; z_ok = c.requires.z_ok })
 
 pub counted_runs-requires-clause-order : goal.counted_runs-requires-clause-order
 counted_runs-requires-clause-order c =
@@ -30,7 +30,7 @@ returns c =
     let last = slice_index_or positions (length positions - 1) (pos 0) in
     let cut = c.args.cut.now in
     let fiber : Fiber = record { axis = c.args.axis; at = c.args.at; z = cut.z } in
-    let found = rw (stored c.args.at c.requires.at_ok, stored cut.z c.requires.cut_ok.z_ok, stored first from, stored last to) at c.counted_runs.ensures.runs in
+    let found = rw (stored c.args.at c.requires.at_ok, stored cut.z c.requires.z_ok, stored first from, stored last to) at c.counted_runs.ensures.runs in
     record {
       ascending = IfOk-more c.counted_runs.result _ _ (λ runs h. ascends (BlockedOn cut c.args.axis c.args.at) last first runs.items h from to) found;
       blocked = IfOk-more c.counted_runs.result _ _ (λ runs h v. runs_hold_blocked cut.tool cut.part.now fiber first last v runs.items h) found;

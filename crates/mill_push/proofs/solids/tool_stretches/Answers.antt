@@ -18,8 +18,8 @@ pub returns-in_err-extend_from_slice-clause-cost : goal.returns-in_err-extend_fr
 returns-in_err-extend_from_slice-clause-cost g c =
     let from = stored c.args.from c.requires.from_ok in
     let to = stored c.args.to c.requires.to_ok in
-    touches_held c.args.tool.now c.args.part.now c.args.fiber c.args.from c.args.to c.args.steps.now c.solid_stretches.new.steps c.holder_stretches.new.steps c.in-Some.holder c.in-Some.is
-    (rw (from, to) at c.solid_stretches.ensures.cost) (rw (from, to) at c.holder_stretches.ensures.cost)
+    touches_held c.args.tool.now c.args.part.now c.args.fiber c.args.from c.args.to c.args.steps.now c.solid_stretches.new.steps c.solid_stretches-2.new.steps c.in-Some.holder c.in-Some.is
+    (rw (from, to) at c.solid_stretches.ensures.cost) (rw (from, to) at c.solid_stretches-2.ensures.cost)
 
 pub returns-clause-stretches : goal.returns-clause-stretches
 returns-clause-stretches g c =
@@ -32,5 +32,5 @@ pub returns-clause-cost : goal.returns-clause-cost
 returns-clause-cost g c =
     let from = stored c.args.from c.requires.from_ok in
     let to = stored c.args.to c.requires.to_ok in
-    touches_held c.args.tool.now c.args.part.now c.args.fiber c.args.from c.args.to c.args.steps.now c.solid_stretches.new.steps c.holder_stretches.new.steps c.in-Some.holder c.in-Some.is
-    (rw (from, to) at c.solid_stretches.ensures.cost) (rw (from, to) at c.holder_stretches.ensures.cost)
+    touches_held c.args.tool.now c.args.part.now c.args.fiber c.args.from c.args.to c.args.steps.now c.solid_stretches.new.steps c.solid_stretches-2.new.steps c.in-Some.holder c.in-Some.is
+    (rw (from, to) at c.solid_stretches.ensures.cost) (rw (from, to) at c.solid_stretches-2.ensures.cost)

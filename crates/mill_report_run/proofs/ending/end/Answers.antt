@@ -26,7 +26,7 @@ returns-in-Ok-clause-headline g c =
     rw c.in-Ok.is (ended_as (λ (call : Call). Headline (map string_bytes c.in-Ok.words.items) call) c.run.result c.exit_code_of.result _ _ _ _ c.exit_code_of.ensures (rw c.deref.ensures.value at c.run.ensures.headline))
 
 pub returns-in-Ok-clause-faults : goal.returns-in-Ok-clause-faults
-returns-in-Ok-clause-faults g c = ended_as BlamesFaults c.run.result c.exit_code_of.result _ _ _ _ c.exit_code_of.ensures (record { write = c.run.ensures.write; read = c.run.ensures.read })
+returns-in-Ok-clause-faults g c = ended_as BlamesFaults c.run.result c.exit_code_of.result _ _ _ _ c.exit_code_of.ensures c.run.ensures.faults
 
 pub returns-in-Ok-clause-untouched : goal.returns-in-Ok-clause-untouched
 returns-in-Ok-clause-untouched g c = rw c.in-Ok.is (rw c.deref.ensures.value at c.run.ensures.untouched)

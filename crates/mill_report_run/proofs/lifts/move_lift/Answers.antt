@@ -1,10 +1,14 @@
-use Rattle.std.proofs.Common.{◌≡◌, ◌∙◌, ℕ, rules, sym, true≢false}
+use Rattle.std.proofs.Common.{◌≡◌, ◌∙◌, ℕ, rules, sym, subst, true≢false}
 use Rattle.std.specs.Prelude.{pos}
 use mir.Syntax.{w32}
 use mir.Val.{of_z, to_z}
 use Rattle.mill_job.specs.Jobs.{tool_of}
-use Rattle.mill_gouge.specs.Lifts.{IsLeastLift}
+use Rattle.mill_gouge.specs.Lifts.{IsLeastLift, IsTipLowest}
+use Rattle.mill_report_run.proofs.LiftLemmas.{tip_lowest}
 use Rattle.mill_report_run.proofs.lifts.move_lift.Goals as goal
+
+pub least_units-requires-clause-lowest : goal.least_units-requires-clause-lowest
+least_units-requires-clause-lowest c = subst IsTipLowest (sym c.tool.ensures) (tip_lowest c.args.job.now.fields c.args.job.now.is_job)
 
 pub least_units-requires-clause-room_ok : goal.least_units-requires-clause-room_ok
 least_units-requires-clause-room_ok c = rw c.part.ensures at (c.has_room.ensures.0 c.if-not-has_room.false)

@@ -2,11 +2,8 @@ use Rattle.mill_report_run.proofs.Blaming.{blames}
 use Rattle.mill_report_run.proofs.Headlines.{completes_of, headline_of, untaken_of}
 use Rattle.mill_report_run.proofs.program.run.Goals as goal
 
-pub returns-clause-write : goal.returns-clause-write
-returns-clause-write g c = (blames _ _ c.work.ensures.outcome).write
-
-pub returns-clause-read : goal.returns-clause-read
-returns-clause-read g c = (blames _ _ c.work.ensures.outcome).read
+pub returns-clause-faults : goal.returns-clause-faults
+returns-clause-faults g c = blames _ _ c.work.ensures.outcome
 
 pub returns-clause-held : goal.returns-clause-held
 returns-clause-held g c = c.work.ensures.outcome.held

@@ -3,11 +3,10 @@ use Rattle.mill_run.proofs.Outcomes.{answers_of, completes_of, untaken_of}
 use Rattle.mill_run.proofs.Headlines.{headline_of, plan_headline_of, stock_headline_of, rest_headline_of}
 use Rattle.mill_run.proofs.commands.run.Goals as goal
 
-pub returns-clause-write : goal.returns-clause-write
-returns-clause-write g c = blames_writes _ c.work.ensures.outcome.outcome c.work.ensures.outcome.shows
-
-pub returns-clause-read : goal.returns-clause-read
-returns-clause-read g c = blames_reads _ c.work.ensures.outcome.outcome c.work.ensures.outcome.shows
+pub returns-clause-faults : goal.returns-clause-faults
+returns-clause-faults g c =
+    let has = c.work.ensures.outcome in
+    record { write = blames_writes _ has.outcome has.shows; read = blames_reads _ has.outcome has.shows }
 
 pub returns-clause-kept : goal.returns-clause-kept
 returns-clause-kept g c = λ nothing. keeps _ _ c.work.ensures.outcome nothing
@@ -15,14 +14,10 @@ returns-clause-kept g c = λ nothing. keeps _ _ c.work.ensures.outcome nothing
 pub returns-clause-held : goal.returns-clause-held
 returns-clause-held g c = c.work.ensures.outcome.held
 
-pub returns-clause-answers : goal.returns-clause-answers
-returns-clause-answers g c = answers_of _ _ c.work.ensures.outcome
-
-pub returns-clause-completes : goal.returns-clause-completes
-returns-clause-completes g c = completes_of _ _ c.work.ensures.outcome
-
-pub returns-clause-untaken : goal.returns-clause-untaken
-returns-clause-untaken g c = untaken_of _ _ c.work.ensures.outcome
+pub returns-clause-replies : goal.returns-clause-replies
+returns-clause-replies g c =
+    let has = c.work.ensures.outcome in
+    record { answers = answers_of _ _ has; completes = completes_of _ _ has; untaken = untaken_of _ _ has }
 
 pub returns-clause-headline : goal.returns-clause-headline
 returns-clause-headline g c = headline_of c.one_verdict.ensures _ _ c.work.ensures.outcome

@@ -11,7 +11,7 @@ use Rattle.mill_run.proofs.ending.end.Goals as goal
 
 pub returns-in-Ok-clause-faults : goal.returns-in-Ok-clause-faults
 returns-in-Ok-clause-faults g c =
-    ended_as (λ (call : Call). BlamesFaults call) c.run.result c.exit_code_of.result _ _ _ _ c.exit_code_of.ensures (record { write = c.run.ensures.write; read = c.run.ensures.read })
+    ended_as (λ (call : Call). BlamesFaults call) c.run.result c.exit_code_of.result _ _ _ _ c.exit_code_of.ensures c.run.ensures.faults
 
 pub returns-in-Ok-clause-kept : goal.returns-in-Ok-clause-kept
 returns-in-Ok-clause-kept g c = rw c.in-Ok.is (rw c.deref.ensures.value at c.run.ensures.kept)
@@ -28,13 +28,8 @@ returns-in-Ok-clause-outcome g c =
 
 pub returns-in-Ok-clause-replies : goal.returns-in-Ok-clause-replies
 returns-in-Ok-clause-replies g c =
-    let ended : Replies (map string_bytes c.in-Ok.words.items) (call_of c.run.result (g.S.Shelf.shows c.args.shelf.now) (g.S.Shelf.shows c.run.new.shelf) (g.O.Sink.shows c.args.out.now) (g.O.Sink.shows c.run.new.out)) =
-    record {
-      answers = rw c.deref.ensures.value at c.run.ensures.answers;
-      completes = rw c.deref.ensures.value at c.run.ensures.completes;
-      untaken = rw c.deref.ensures.value at c.run.ensures.untaken;
-    } in
-    rw c.in-Ok.is (ended_as (λ (call : Call). Replies (map string_bytes c.in-Ok.words.items) call) c.run.result c.exit_code_of.result _ _ _ _ c.exit_code_of.ensures ended)
+    rw c.in-Ok.is
+    (ended_as (λ (call : Call). Replies (map string_bytes c.in-Ok.words.items) call) c.run.result c.exit_code_of.result _ _ _ _ c.exit_code_of.ensures (rw c.deref.ensures.value at c.run.ensures.replies))
 
 pub returns-in-Ok-clause-headlines : goal.returns-in-Ok-clause-headlines
 returns-in-Ok-clause-headlines g c =

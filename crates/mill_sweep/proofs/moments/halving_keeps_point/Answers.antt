@@ -1,4 +1,4 @@
-use Rattle.mill_sweep.proofs.Lower.{passing_keeps_point}
+use Rattle.mill_sweep.proofs.Solids.{passing_keeps_point}
 use Rattle.mill_sweep.proofs.moments.halving_keeps_point.Goals as goal
 
 pub returns : goal.returns

@@ -33,7 +33,7 @@ pub returns-in-Some : goal.returns-in-Some
 returns-in-Some c =
     let q = c.requires in
     let first = subst (λ (hs : List (Held Piece)). IsFirstFailed c.args.closed.least hs c.in-Some.number) c.deref.ensures.value c.in-Some.ensures in
-    named c.failing_is_blocked.ensures c.holder_failing_is_blocked.ensures c.args.job.now.fields c.args.part.now (stock_of c.args.job.now.fields c.args.start.now) c.args.moves.now c.args.job.now.is_job q.ready.moves_ok c.reason_of.result
+    named c.failing_is_blocked.ensures c.args.job.now.fields c.args.part.now (stock_of c.args.job.now.fields c.args.start.now) c.args.moves.now c.args.job.now.is_job q.ready.moves_ok c.reason_of.result
     (rejected c.args.job.now.fields c.args.part.now (rows_at c.args.start.now) c.args.moves.now c.args.turns c.args.closed.least c.args.closed.pieces.items q.ready.within q.floor q.tested c.in-Some.number first
     _ c.count.result c.count.ensures c.index.result.now c.reason_of.result c.index.ensures c.reason_of.ensures)
 
@@ -41,7 +41,7 @@ pub returns-then-turns-moves : goal.returns-then-turns-moves
 returns-then-turns-moves c =
     let q = c.requires in
     let none = subst (λ (hs : List (Held Piece)). NoneFailed c.args.closed.least hs (length hs)) c.deref.ensures.value c.in_default.ensures in
-    named c.failing_is_blocked.ensures c.holder_failing_is_blocked.ensures c.args.job.now.fields c.args.part.now (stock_of c.args.job.now.fields c.args.start.now) c.args.moves.now c.args.job.now.is_job q.ready.moves_ok (Floor c.args.turns)
+    named c.failing_is_blocked.ensures c.args.job.now.fields c.args.part.now (stock_of c.args.job.now.fields c.args.start.now) c.args.moves.now c.args.job.now.is_job q.ready.moves_ok (Floor c.args.turns)
     (floor_rejects c.args.job.now.fields c.args.part.now (rows_at c.args.start.now) c.args.moves.now c.args.turns c.args.closed.least c.args.closed.pieces.items q.ready.within q.floor q.tested none c.if-turns-moves.true)
 
 pub returns : goal.returns

@@ -3,3 +3,6 @@ use Rattle.mill_drop.proofs.map.ThreadedDropCrew.drop_map.Goals as goal
 
 pub returns-clause-heights : goal.returns-clause-heights
 returns-clause-heights g c = rw (coordinate c.args.floor c.requires.floor_ok) at c.map_by_threads.ensures.heights
+
+pub returns-clause-bound : goal.returns-clause-bound
+returns-clause-bound g c = rw (coordinate c.args.floor c.requires.floor_ok) at c.map_by_threads.ensures.bound

@@ -3,9 +3,8 @@ use mir.Syntax.{w32}
 use lib.IntN.{ℤ, pos, ◌+ℤ◌, ◌-ℤ◌, nat_abs}
 use lib.Signed.{◌<ℤ◌, ◌≤ℤ◌, lt_z}
 use Rattle.std.proofs.lemmas.Int.{ints, to_z-of_z, fits_signed_from_abs}
-use Rattle.mill_base.specs.Numbers.{Within}
-use Rattle.mill_base.specs.declared.limits.TheConstants.{MAX_COORDINATE}
-use Rattle.mill_drop.specs.inner.Cutters.{TouchesAt}
+use Rattle.mill_drop.specs.inner.Solids.{TouchesAt}
+use Rattle.mill_drop.specs.inner.Spindles.{IsTipHeight}
 use Rattle.mill_drop.proofs.search.Spindle.least_free.Goals as goal
 
 from_over : (a b c : ℤ) → a ≤ℤ b → b <ℤ c → a ≤ℤ c
@@ -14,11 +13,11 @@ from_over a b c h k = omega (arith, ints)
 next : (low high : ℤ) → low <ℤ high → lt_z (low +ℤ pos 1) high ≡ false → low ≡ high -ℤ pos 1
 next low high h test = omega (arith, ints)
 
-next_fits : (start low high end : ℤ) → Within MAX_COORDINATE start → Within MAX_COORDINATE end → start ≤ℤ low → low <ℤ high → high ≤ℤ end → FitsSigned w32 (low +ℤ pos 1)
+next_fits : (start low high end : ℤ) → IsTipHeight start → IsTipHeight end → start ≤ℤ low → low <ℤ high → high ≤ℤ end → FitsSigned w32 (low +ℤ pos 1)
 next_fits start low high end hs he from order to = fits_signed_from_abs w32 (low +ℤ pos 1) small
   where
     small : nat_abs (low +ℤ pos 1) < 2147483648
-    small = let l = hs.within in let m = he.within in omega (arith, ints)
+    small = let l = hs.least in let m = he.most in omega (arith, ints)
 
 pub loop-low-preserved-then-holds_some : goal.loop-low-preserved-then-holds_some
 loop-low-preserved-then-holds_some c =

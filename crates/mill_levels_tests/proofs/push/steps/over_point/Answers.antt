@@ -1,10 +1,11 @@
-use Rattle.std.proofs.Common.{◌≡◌, ℕ, zero, suc, ◌+◌, ◌*◌, ◌<◌, ◌≤◌, List, [], ◌∷◌, length, w16, sym, subst, arith}
+use Rattle.std.proofs.Common.{◌≡◌, ℕ, zero, suc, ◌+◌, ◌*◌, ◌<◌, ◌≤◌, List, [], ◌∷◌, length, w16, sym, subst, ap, ◌∙◌, arith}
 use Rattle.std.specs.Prelude.{◌^◌}
 use Rattle.std.proofs.lemmas.Grind.{pow_more}
 use Rattle.std.proofs.lemmas.Int.{ints, to_z-of_z}
 use lib.IntN.{ℤ, pos, ◌-ℤ◌}
 use lib.Signed.{◌<ℤ◌, ◌≤ℤ◌}
 use Rattle.mill_base.specs.Points.{point_at, point_tri}
+use Rattle.mill_base.specs.Solids.{at_tip}
 use Rattle.mill_base.specs.Tools.{bare}
 use Rattle.mill_base.specs.declared.cutter.Cutter.TheVariants.{Flat}
 use Rattle.mill_base.specs.declared.points.Tri.{Tri}
@@ -54,32 +55,32 @@ past_point fiber part from to old new e far t =
     none n (suc m) a b = absurd (omega (arith, a))
 
 -- nor does one of the cutter without a holder
-past_tool : (tool : Tool) (fiber : Fiber) (part : List Tri) (from to : ℤ) (old new : ℕ) → tool ≡ bare (Flat (pos 100)) → part ≡ the_point ∷ [] → ¬ IsNearFiber (Flat (pos 100)) fiber from to the_point
+past_tool : (tool : Tool) (fiber : Fiber) (part : List Tri) (from to : ℤ) (old new : ℕ) → tool ≡ bare (at_tip (Flat (pos 100))) → part ≡ the_point ∷ [] → ¬ IsNearFiber (Flat (pos 100)) fiber from to the_point
     → ToolTouchesFew tool part fiber from to old new → new ≤ old
 past_tool tool fiber part from to old new is e far t =
-    let few : ToolTouchesFew (bare (Flat (pos 100))) part fiber from to old new = subst (λ (k : Tool). ToolTouchesFew k part fiber from to old new) is t in
+    let few : ToolTouchesFew (bare (at_tip (Flat (pos 100)))) part fiber from to old new = subst (λ (k : Tool). ToolTouchesFew k part fiber from to old new) is t in
     subst (λ (m : ℕ). m ≤ old) (sym few.holder) (past_point fiber part from to old few.middle e far few.cutter)
 
 pub returns-in_err-runs-clause-beside : goal.returns-in_err-runs-clause-beside
 returns-in_err-runs-clause-beside g c far =
     let across = to_z-of_z w16 c.args.across c.ranges.across in
-    past_tool c.bare-tool.result c.fiber.result c.in_ok-part.part _ _ c.args.steps.now c.push.new.steps c.bare-tool.ensures (cc (c.in_ok-part.ensures, c.point.ensures.value))
+    past_tool c.bare-tool.result c.fiber.result c.in_ok-part.part _ _ c.args.steps.now c.push.new.steps (c.bare-tool.ensures ∙ ap bare c.at_tip.ensures) (cc (c.in_ok-part.ensures, c.point.ensures.value))
     (beside c.fiber.result _ _ c.fiber.ensures.axis (rw (c.fiber.ensures.at, across) far)) c.push.ensures.near
 
 pub returns-in_err-runs-clause-over : goal.returns-in_err-runs-clause-over
 returns-in_err-runs-clause-over g c far =
     let z = to_z-of_z w16 c.args.z c.ranges.z in
-    past_tool c.bare-tool.result c.fiber.result c.in_ok-part.part _ _ c.args.steps.now c.push.new.steps c.bare-tool.ensures (cc (c.in_ok-part.ensures, c.point.ensures.value))
+    past_tool c.bare-tool.result c.fiber.result c.in_ok-part.part _ _ c.args.steps.now c.push.new.steps (c.bare-tool.ensures ∙ ap bare c.at_tip.ensures) (cc (c.in_ok-part.ensures, c.point.ensures.value))
     (over c.fiber.result _ _ (rw (c.fiber.ensures.z, z) far)) c.push.ensures.near
 
 pub returns-clause-beside : goal.returns-clause-beside
 returns-clause-beside g c far =
     let across = to_z-of_z w16 c.args.across c.ranges.across in
-    past_tool c.bare-tool.result c.fiber.result c.in_ok-part.part _ _ c.args.steps.now c.push.new.steps c.bare-tool.ensures (cc (c.in_ok-part.ensures, c.point.ensures.value))
+    past_tool c.bare-tool.result c.fiber.result c.in_ok-part.part _ _ c.args.steps.now c.push.new.steps (c.bare-tool.ensures ∙ ap bare c.at_tip.ensures) (cc (c.in_ok-part.ensures, c.point.ensures.value))
     (beside c.fiber.result _ _ c.fiber.ensures.axis (rw (c.fiber.ensures.at, across) far)) c.push.ensures.near
 
 pub returns-clause-over : goal.returns-clause-over
 returns-clause-over g c far =
     let z = to_z-of_z w16 c.args.z c.ranges.z in
-    past_tool c.bare-tool.result c.fiber.result c.in_ok-part.part _ _ c.args.steps.now c.push.new.steps c.bare-tool.ensures (cc (c.in_ok-part.ensures, c.point.ensures.value))
+    past_tool c.bare-tool.result c.fiber.result c.in_ok-part.part _ _ c.args.steps.now c.push.new.steps (c.bare-tool.ensures ∙ ap bare c.at_tip.ensures) (cc (c.in_ok-part.ensures, c.point.ensures.value))
     (over c.fiber.result _ _ (rw (c.fiber.ensures.z, z) far)) c.push.ensures.near

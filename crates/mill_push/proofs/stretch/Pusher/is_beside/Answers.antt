@@ -1,6 +1,6 @@
 use Rattle.std.proofs.Common.{arith}
 use Rattle.std.proofs.lemmas.Int.{ints}
-use Rattle.mill_push.proofs.Pushing.{about_by}
+use Rattle.mill_push.proofs.Pushing.{about_by, height_stored}
 use Rattle.mill_push.proofs.Stored.{stored, stored_reach}
 use Rattle.mill_push.proofs.Windows.{beside_after, beside_before, fits_about, most_for_tri}
 use Rattle.mill_push.proofs.stretch.Pusher.is_beside.Goals as goal
@@ -28,7 +28,7 @@ returns-then-across-reach c =
     let reach = c.requires.reach_ok in
     let most = most_for_tri p.cutter p.fiber.z r c.args.tri.now c.requires.self_ok.cutter_ok reach in
     let low = about_by r c.extent_over-across.result.first reach.holds.least most c.extent_over-across.ensures.in_range.first_ok in
-    let holds = rw (c.other.ensures, stored p.fiber.z c.requires.self_ok.fiber_ok.z_ok) at c.extent_over-across.ensures.extent in
+    let holds = rw (c.other.ensures, height_stored p.fiber c.requires.self_ok.fiber_ok) at c.extent_over-across.ensures.extent in
     rw (stored p.fiber.at c.requires.self_ok.fiber_ok.at_ok, low.0)
     (λ test v t. beside_before p.cutter c.args.tri.now p.fiber r c.requires.self_ok.cutter_ok reach c.extent_over-across.result v holds (omega (test, arith, ints)) t)
 
@@ -39,6 +39,6 @@ returns-else-across-reach c =
     let reach = c.requires.reach_ok in
     let most = most_for_tri p.cutter p.fiber.z r c.args.tri.now c.requires.self_ok.cutter_ok reach in
     let high = about_by r c.extent_over-across.result.last reach.holds.least most c.extent_over-across.ensures.in_range.last_ok in
-    let holds = rw (c.other.ensures, stored p.fiber.z c.requires.self_ok.fiber_ok.z_ok) at c.extent_over-across.ensures.extent in
+    let holds = rw (c.other.ensures, height_stored p.fiber c.requires.self_ok.fiber_ok) at c.extent_over-across.ensures.extent in
     rw (stored p.fiber.at c.requires.self_ok.fiber_ok.at_ok, high.1)
     (λ test v t. beside_after p.cutter c.args.tri.now p.fiber r c.requires.self_ok.cutter_ok reach c.extent_over-across.result v holds (omega (test, arith, ints)) t)

@@ -2,6 +2,7 @@ use Rattle.std.proofs.lemmas.List.Elements.{Contains-get_or}
 use Rattle.mill_push.proofs.Collecting.{collect_starts, next_within, goes_on_without, goes_on_with, collect_ends, collect_cost, no_cost}
 use Rattle.mill_push.proofs.Cutting.{span_in_range, spans_in_range}
 use Rattle.mill_push.proofs.Growing.{grown_by_one}
+use Rattle.mill_push.proofs.Pushing.{height_stored}
 use Rattle.mill_push.proofs.Stored.{stored}
 use Rattle.mill_push.proofs.stretch.Pusher.stretches.Goals as goal
 
@@ -43,7 +44,7 @@ loop-number-preserved-in_default-new_stretch g c =
     let from = stored c.args.from c.requires.from_ok in
     let to = stored c.args.to c.requires.to_ok in
     let i = rw (from, to) at c.loop-number.invariant in
-    let comes = rw (stored c.args.self.fiber.z c.requires.self_ok.fiber_ok.z_ok) at c.in-Some.ensures in
+    let comes = rw (height_stored c.args.self.fiber c.requires.self_ok.fiber_ok) at c.in-Some.ensures in
     let known = rw (from, to, c.tris-tris.ensures.list, c.part.ensures) at c.in_default-new_stretch.ensures.stretch in
     let cost = rw (from, to) at c.in_default-new_stretch.ensures.cost in
     rw (from, to) (goes_on_without c.args.self c.args.part.now c.args.from c.args.to c.requires.self_ok comes i known cost)
@@ -67,7 +68,7 @@ loop-number-preserved g c =
     let from = stored c.args.from c.requires.from_ok in
     let to = stored c.args.to c.requires.to_ok in
     let i = rw (from, to) at c.loop-number.invariant in
-    let comes = rw (stored c.args.self.fiber.z c.requires.self_ok.fiber_ok.z_ok) at c.in-Some.ensures in
+    let comes = rw (height_stored c.args.self.fiber c.requires.self_ok.fiber_ok) at c.in-Some.ensures in
     let stretch = rw (from, to, c.tris-tris.ensures.list, c.part.ensures) at c.in-Some-new_stretch.ensures.stretch in
     let cost = rw (from, to) at c.in-Some-new_stretch.ensures.cost in
     rw (from, to) (goes_on_with c.args.self c.args.part.now c.args.from c.args.to c.requires.self_ok comes i stretch c.in_ok-add.ensures cost)
@@ -77,7 +78,7 @@ returns-in_err-add-clause-cost g c =
     let from = stored c.args.from c.requires.from_ok in
     let to = stored c.args.to c.requires.to_ok in
     let i = rw (from, to) at c.loop-number.invariant in
-    let comes = rw (stored c.args.self.fiber.z c.requires.self_ok.fiber_ok.z_ok) at c.in-Some.ensures in
+    let comes = rw (height_stored c.args.self.fiber c.requires.self_ok.fiber_ok) at c.in-Some.ensures in
     let stretch = rw (from, to, c.tris-tris.ensures.list, c.part.ensures) at c.in-Some-new_stretch.ensures.stretch in
     let cost = rw (from, to) at c.in-Some-new_stretch.ensures.cost in
     collect_cost c.args.self c.args.part.now c.args.from c.args.to (goes_on_with c.args.self c.args.part.now c.args.from c.args.to c.requires.self_ok comes i stretch (grown_by_one c.loop-number.known.runs.items _) cost)
@@ -87,7 +88,7 @@ returns-clause-stretches g c =
     let from = stored c.args.from c.requires.from_ok in
     let to = stored c.args.to c.requires.to_ok in
     let i = rw (from, to) at c.loop-number.invariant in
-    let none = rw (stored c.args.self.fiber.z c.requires.self_ok.fiber_ok.z_ok) at c.in_default.ensures in
+    let none = rw (height_stored c.args.self.fiber c.requires.self_ok.fiber_ok) at c.in_default.ensures in
     collect_ends c.args.self c.args.part.now c.args.from c.args.to c.requires.self_ok c.requires.reach_ok none i
 
 pub returns-clause-cost : goal.returns-clause-cost

@@ -1,6 +1,6 @@
 use Rattle.std.proofs.Common.{rules, w32}
 use Rattle.std.proofs.lemmas.Int.{to_z-of_z}
-use Rattle.mill_push.proofs.Pushing.{about_by}
+use Rattle.mill_push.proofs.Pushing.{about_by, height_stored}
 use Rattle.mill_push.proofs.Stored.{stored, stored_reach}
 use Rattle.mill_push.proofs.Windows.{fits_about, most_for_tri, window_is, window_ok}
 use Rattle.mill_push.proofs.stretch.Pusher.window.Goals as goal
@@ -45,6 +45,6 @@ returns-clause-window c =
     let high = about_by r c.extent_over-extent.result.last reach.holds.least most extent.last_ok in
     let first = rw (stored c.args.from c.requires.from_ok, low.0) at c.max.ensures.value in
     let last = rw (stored c.args.to c.requires.to_ok, high.1) at c.min.ensures.value in
-    let holds = rw (stored p.fiber.z c.requires.self_ok.fiber_ok.z_ok) at c.extent_over-extent.ensures.extent in
+    let holds = rw (height_stored p.fiber c.requires.self_ok.fiber_ok) at c.extent_over-extent.ensures.extent in
     rw (to_z-of_z w32 c.max.result (search rules), to_z-of_z w32 c.min.result (search rules), first, last)
     (window_is p.cutter c.args.tri.now p.fiber r c.requires.self_ok.cutter_ok reach c.args.from c.args.to c.extent_over-extent.result holds)
