@@ -12,6 +12,7 @@ import re
 PAGE = os.path.join("docs", "PROOF.md")
 MARK = "<!-- tests/believed --proof writes all that is below this line. -->"
 SAFE = ("mill_verify", "Claims", "CutsSafely")
+PLAIN = ("mill_verify", "Plain", "PlainIsPlain")
 ACCEPTED = ("mill_answer", "Verify", "AcceptsSafely")
 # The names that a reader of the page meets in place of "declared" modules: a struct or an enum of the code.
 STRUCT = re.compile(r"declared\.([\w.]+?)\.(\w+)(?:\.TheVariants)?$")
@@ -136,10 +137,14 @@ def added_lines(page, more):
 def made(page):
     """All that stands behind the line MARK."""
     safe, accepted = page.under(SAFE), page.under(ACCEPTED)
+    plain = page.under(PLAIN) - safe
     out = [MARK, "", "## The definitions under `CutsSafely`", "", f"{page.count(safe)}."]
     out += data_lines(page, safe)
     for module in in_reading_order(page, safe):
         out += module_lines(page, module, safe)
+    out += ["", "## Without slack, overcut and graze", "", f"Beside these stand {page.count(plain)}: the same six statements of the program's own path, and the law by which `CutsSafely` gives them."]
+    for module in in_reading_order(page, plain):
+        out += module_lines(page, module, plain)
     out += ["", "## What `AcceptsSafely` adds", "", f"{page.count(accepted - safe)}: what it means that the three texts read as a job, a part and moves."]
     out += added_lines(page, accepted - safe)
     return "\n".join(out) + "\n"

@@ -51,6 +51,8 @@ class Job:
         self.layer, self.rough_stock = keys.get("layer", 0), keys.get("rough_stock", 0)
         self.rough_raster = keys.get("rough_raster", self.raster)
         self.levels, self.path_tol = keys.get("levels", []), keys.get("path_tol")
+        self.slack, self.overcut = keys.get("slack", 0), keys.get("overcut", 0)
+        self.graze = keys.get("graze", 2 * self.slack + 5 if self.slack else 0)
         self.sides = self.area[2] - self.area[0], self.area[3] - self.area[1]
 
     def mm(self, units):
@@ -83,6 +85,8 @@ def rows_of(job):
     near = f"a part point less than {job.mm(job.band)} away" if job.band else "the part at its place"
     yield "left", f"at most {job.mm(job.allowance)} of a column, over the floor and over {near}"
     yield "depth", f"a feed cuts at most {job.mm(job.max_cut)} deep" if job.max_cut else "no limit on how deep a feed cuts"
+    if job.slack or job.overcut or job.graze:
+        yield "machine", f"the tip is at most {job.mm(job.slack)} off; the part may be cut by {job.mm(job.overcut)}, and stock shaved by {job.mm(job.graze)}"
     holder = f"{job.mm(2 * job.holder_radius)} across, {job.mm(job.stickout)} over the tip" if job.stickout else "none, so nothing over the cutter is looked at"
     yield "holder", holder
 
@@ -112,6 +116,12 @@ def notes_on_stock(job):
         yield f"pitch: so close to the tip of a cone a rapid may dip {job.mm(round(job.pitch * job.rise / job.run * 0.707))} into stock unseen"
     if job.allowance >= job.top - job.floor:
         yield "allowance: as high as the stock, so what is left isn't judged"
+    if job.overcut:
+        yield f"overcut: what is thinner than {job.mm(job.overcut)} of the part may be cut away whole"
+    if job.slack and not job.overcut:
+        yield "overcut: with a slack and without it a program that is cut to size is rejected"
+    if job.allowance < job.slack:
+        yield "allowance: it is under slack, by which the tip may be too high"
 
 
 def notes_on_plan(job):

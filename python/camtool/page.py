@@ -204,6 +204,8 @@ def numbers_of(seen):
     rows.append(("pitch", f"{mm(job['pitch'])} mm"))
     rows.append(("allowance, band", f"{mm(job['allowance'])} mm, {mm(job['band'])} mm"))
     rows.append(("max_cut", f"{mm(job['max_cut'])} mm" if job.get("max_cut") else "no limit on the depth of a cut"))
+    if job.get("slack") or job.get("overcut"):
+        rows.append(("slack, overcut", f"{mm(job.get('slack', 0))} mm, {mm(job.get('overcut', 0))} mm"))
     holder = "none: nothing over the cutter is looked at"
     if "stickout" in job:
         holder = f"diameter {mm(2 * job['holder_radius'])} mm, {mm(job['stickout'])} mm over the tip"
@@ -222,7 +224,9 @@ def lead_of(seen, findings):
         return f"Nothing was judged of {names[2]}."
     if seen.is_accepted:
         tools = f"the tools of {names[2]} and the stock" if seen.is_list else "the tool and the stock"
-        return f"{names[2]} cuts {names[1]} within allowance and band, and doesn't scrape it, with {tools} of {names[0]}."
+        mm, overcut = seen.grid.millimetres, seen.job.get("overcut", 0)
+        scrape = f"comes at most {mm(overcut)} mm into it" if overcut else "doesn't scrape it"
+        return f"{names[2]} cuts {names[1]} within allowance and band, and {scrape}, with {tools} of {names[0]}."
     return f"Don't cut by {names[2]}: {counts_of(seen, findings)}."
 
 

@@ -27,7 +27,7 @@ ADVICE = {
     "touch": "The path slides along the part; camtool tests with a cutter up to 2 units wider. Write `{key} = {passes}` in the job: "
     "the tool may then come {less} into the part, and no more. Or keep the path {more} off it.",
     "deep": "Raised by that much, at both ends, {who} the part. Are the part's zero and the program's the same?",
-    "near": "Keep the path three or four units off the part, or take a `radius` a few units less.",
+    "near": "Keep the path three or four units off the part, or write an `overcut` of 5 units: the tool may then come so far into it.",
     "Holder": "Let the tool stand out further, or take a narrower holder.",
     "Cutter": "Move the path {deep} mm away, or take a smaller tool. Is the job's `radius` that of the tool?",
     "small": "Smaller than the tool. A hole that a drill makes? Put the drilling into a list for `camtool rest`, or close the hole "

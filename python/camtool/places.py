@@ -221,6 +221,10 @@ def tell_accepted(files, verdict):
         said.append(f"the path goes from {grid.point(low)} to {grid.point(high)}, and feeds down to Z{grid.millimetres(cut)}")
     if left:
         said += tell_left(grid, job, grid.units(left[1]))
+    slack, overcut = job.get("slack", 0), job.get("overcut", 0)
+    if slack or overcut:
+        mm = grid.millimetres
+        said.append(f"the tip may be {mm(slack)} mm off its place, and the part may be cut by {mm(overcut)} mm; what of it is thinner may be gone")
     return said
 
 

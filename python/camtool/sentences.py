@@ -11,6 +11,7 @@ from camtool.command import quoted
 NUMBER = "a whole number of {{units}} from {} to {}; 3.0 mm is {{three}}".format
 DISTANCE, LEFT, HEIGHT = NUMBER("1", "10,000"), NUMBER("0", "10,000"), NUMBER("-{greatest}", "{greatest}")
 SLOPE = "a whole number from 1 to 100"
+SMALL = "a whole number of {{units}} from 0 to {}; 0.05 mm is {{five}}".format
 # What each key of a job and of a list is, and how its value is written.
 KEYS = {
     "unit": ("what one unit is", 'a text, "hundredth" (0.01 mm) or "thousandth" (0.001 mm)'),
@@ -38,6 +39,9 @@ KEYS = {
     "holder_radius": ("the radius of what holds the cutter", DISTANCE),
     "stickout": ("how far the holder is over the cutter's tip", NUMBER("1", "{greatest}")),
     "path_tol": ("how much over its drop heights a plan's straight way may be", LEFT),
+    "slack": ("how far the machine's tip may be from where its program says", SMALL("200")),
+    "overcut": ("how deep a point of the part may lie in the cutter and be no gouge", SMALL("500")),
+    "graze": ("how deep stock may lie in the cutter of a rapid and not count", SMALL("500")),
     "steps": ("which programs cut the stock, one after the other", "1 to 16 tables, each under a line [[steps]]"),
     "program": ("the name of the step's program", "a text, in quotes"),
 }
@@ -63,6 +67,12 @@ SENTENCES = {
     "job relation layer top": "`layer` makes over 1,000 layers from `top` down to `floor`: take a larger `layer`, or 0 for no roughing",
     "job relation levels top": "one of `levels` is under `floor`, or isn't under `top`: write heights from `floor` on and under `top`",
     "job relation radius holder_radius": "`holder_radius` isn't over `radius`: a holder is wider than its cutter; measure it anew, or take it and `stickout` out",
+    "job relation slack radius": "`slack` isn't under `radius`, or both together are over 10,000: write a lesser `slack`; it is a few hundredths of a millimetre",
+    "job relation overcut radius": "`overcut` isn't under `radius`, the cutter's: write a lesser `overcut`, no more than the part's tolerance",
+    "job relation graze radius": "`graze` isn't under `radius`, the cutter's: write a lesser one; where it is left out, it is twice `slack` and 5 more",
+    "job relation graze slack": "`graze` is under twice `slack`, or of a cone its height is: leave `graze` out, and it is twice `slack` and 5 more",
+    "job relation slack stickout": "`slack` isn't under `stickout`, or `holder_radius` and `slack` together are over 10,000: write a lesser `slack`, or measure the holder anew",
+    "job relation slack clear": "at `clear` the tip may be under `top` by `slack`, and lower with a cone: raise `clear`, or write a lesser `slack`",
     "part expected": "another word is expected here: a part is ASCII STL, between `solid NAME` and `endsolid NAME` for each triangle "
     "`facet normal N N N outer loop`, three times `vertex X Y Z`, `endloop endfacet`; export it again",
     "part cut-short": "the text ends before its solid does: `endsolid` is missing, or the file was cut off; export it again",
@@ -125,11 +135,11 @@ def refusal_of(verdict):
 def facts_of(job):
     """Returns what the sentences say of the job's unit."""
     if job.get("unit") == "thousandth":
-        words = ["thousandths of a millimetre", "3000", "524,287", "524.287", "0.001", "three", "", "", "; a job in hundredths reaches to 1310.71 mm"]
+        words = ["thousandths of a millimetre", "3000", "50", "524,287", "524.287", "0.001", "three", "", "", "; a job in hundredths reaches to 1310.71 mm"]
     else:
         more = ', or take a job with `unit = "thousandth"`'
-        words = ["hundredths of a millimetre", "300", "131,071", "1310.71", "0.01", "two", f"{more}, which takes three", more, ""]
-    return dict(zip("units three greatest reach one decimals finer finer_part coarser".split(), words))
+        words = ["hundredths of a millimetre", "300", "5", "131,071", "1310.71", "0.01", "two", f"{more}, which takes three", more, ""]
+    return dict(zip("units three five greatest reach one decimals finer finer_part coarser".split(), words))
 
 
 def sentence_of(refusal, job, word=None, why=""):

@@ -137,6 +137,9 @@ class Sheet:
         if low:
             sideways = f"! {len(low):,} rapids go sideways under the top of the stock, the first on line {low[0]}: the control must make straight rapids."
         missing = "! The program has no G61: set exact paths at the control (G64 rounds corners)."
+        slack = self.job.get("slack", 0)
+        if slack:
+            missing = f"! The program has no G61: the control's tolerance (G64 P) and all else that is off are at most {self.mm(slack)} together (slack)."
         return point("Motion", f"{exact} sets exact paths." if exact else missing, sideways)
 
     def spindle(self):
@@ -189,7 +192,8 @@ class Sheet:
         return point(
             "What is left", f"At most {left[1]} mm ({self.mm(job['allowance'])} are allowed). {proud}",
             "! The allowance is as high as the stock: what is left wasn't judged." if high else None,
-            f"Depth of a cut: at most {self.mm(job['max_cut'])}." if job.get("max_cut") else "The depth of a cut wasn't limited.")
+            f"Depth of a cut: at most {self.mm(job['max_cut'])}." if job.get("max_cut") else "The depth of a cut wasn't limited.",
+            f"The part may be cut by {self.mm(job['overcut'])} (overcut): what is thinner may be gone." if job.get("overcut") else None)
 
     def file(self):
         """Returns the point on which file runs."""

@@ -27,7 +27,7 @@ REASONS = {
     "G41 G42 D": "cutter compensation: have the path of the tool's middle written",
     "G43 H": "the tool's length: leave it out, in FreeCAD by --no-tlo, and touch off with the tool",
     "G55 G56 G57 G58 G59": "another offset than G54: touch off in G54",
-    "G61.1 G64": "a control that rounds corners: leave it out, and write G61",
+    "G61.1 G64": "a control that rounds corners: leave it out, and write G61, or its tolerance as the job's `slack`",
     "G73 G81 G82 G83 G84 G85 G86 G87 G88 G89 G98 G99 L Q": "a cycle: have moves written, in FreeCAD by the Grbl post with --translate_drill",
     "G90.1 G91.1": "how the middles of arcs are told: leave it out",
     "G91": "relative coordinates: have absolute ones written, with G90",

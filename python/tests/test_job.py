@@ -89,6 +89,16 @@ class Told(test_cutters.InAFolder):
                 _, notes = self.told(program, keys, part)
                 self.assertTrue(any(wanted in it for it in notes), notes)
 
+    def test_slack_and_overcut(self):
+        text = text_of("slack", "job.toml").decode()
+        rows, notes = self.told(text_of("slack", "program.ngc").decode(), part=os.path.join(EXAMPLES, "slack", "part.stl"), job_text=text)
+        self.assertEqual(rows["machine"], "the tip is at most 0.03 mm off; the part may be cut by 0.08 mm, and stock shaved by 0.11 mm")
+        self.assertIn("note: overcut: what is thinner than 0.08 mm of the part may be cut away whole", notes)
+        changed = text.replace("overcut = 8", "overcut = 0").replace("allowance = 3", "allowance = 0")
+        _, notes = self.told(text_of("slack", "program.ngc").decode(), part=os.path.join(EXAMPLES, "slack", "part.stl"), job_text=changed)
+        self.assertIn("note: overcut: with a slack and without it a program that is cut to size is rejected", notes)
+        self.assertIn("note: allowance: it is under slack, by which the tip may be too high", notes)
+
     def test_a_part_that_is_too_large(self):
         with mock.patch.object(parts, "MOST", 11):
             self.assertIn("note: part: it has over 11 triangles, and is refused; export it with a coarser tolerance", self.told(TWO, part=self.stored("a.stl", block((0, 0, 0), (40, 30, 8))))[1])

@@ -66,6 +66,12 @@ class Shown(unittest.TestCase):
         for wanted in ("`allowance` is as high as the whole stock of 3.00 mm", "`allowance = 10` for 0.1 mm", "1.00 mm of 3.00 mm of stock are left somewhere", "points less than 1.00 mm away"):
             self.assertIn(wanted, text)
 
+    def test_an_acceptance_with_margins(self):
+        with open(os.path.join(PLATE, "job.toml"), "rb") as file:
+            job = file.read() + b"slack = 3\novercut = 8\n"
+        _, said = self.shown("accepted moves 2 columns 9 left 0.03 band 0.00 allowance 0.03 overcut 0.08 slack 0.03", self.names(job=job))
+        self.assertIn("the tip may be 0.03 mm off its place, and the part may be cut by 0.08 mm", "\n".join(said))
+
     def test_an_acceptance_of_a_list(self):
         steps = f"[[steps]]\nprogram = '{PLATE}/program.ngc'\nradius = 150\ncutter = 'flat'\n".encode()
         status, said = self.shown("accepted files 1 moves 2 columns 9 left 0.00", self.names(list=steps))

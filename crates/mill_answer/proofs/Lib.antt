@@ -6,3 +6,4 @@ pub mod ExitCodes
 pub mod Answering
 pub mod Named
 pub mod OneJudgments
+pub mod Margins

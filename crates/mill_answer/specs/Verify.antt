@@ -22,7 +22,7 @@ use Rattle.mill_load.specs.declared.file.File.TheVariants.{Program as ProgramFil
 use Rattle.mill_load.specs.declared.load.Unfit.{Unfit}
 use Rattle.mill_load.specs.declared.load.Unfit.TheVariants.{TooLong, ProgramRefused}
 use Rattle.mill_load.specs.Loads.{AreMoves}
-use Rattle.mill_answer.specs.Printed.{column_words}
+use Rattle.mill_answer.specs.Printed.{column_words, margin_words}
 use Rattle.mill_load.specs.Programs.{IsProgramText, IsRefusedProgram}
 use Rattle.mill_load.specs.Setup.{SetupTexts, setup_texts, AreSetupTold, IsTooLong, ReadsSetup, IsUnfit, IsReadBefore}
 use Rattle.mill_answer.specs.Calls.{Call, HoldsReads}
@@ -153,7 +153,7 @@ abbrev pub NamesVerdictMove : List Move → Verdict → Type 0
 NamesVerdictMove moves (Accept count columns left) = Unit {0}
 NamesVerdictMove moves (Reject reason) = NamesMove moves reason
 
--- the line of a verdict
+-- the line of a verdict; an acceptance tells the margins that it was given with
 abbrev pub verdict_line : JobFields → List Move → Verdict → List ℕ
-verdict_line job moves (Accept count columns left) = line (codes "accepted" ∷ codes "moves" ∷ decimal count ∷ codes "columns" ∷ decimal columns ∷ codes "left" ∷ canonical job.unit left ∷ codes "band" ∷ canonical job.unit job.band ∷ codes "allowance" ∷ canonical job.unit job.allowance ∷ [])
+verdict_line job moves (Accept count columns left) = line (codes "accepted" ∷ codes "moves" ∷ decimal count ∷ codes "columns" ∷ decimal columns ∷ codes "left" ∷ canonical job.unit left ∷ codes "band" ∷ canonical job.unit job.band ∷ codes "allowance" ∷ canonical job.unit job.allowance ∷ margin_words job.unit job.overcut job.slack)
 verdict_line job moves (Reject reason) = line (codes "rejected" ∷ reason_words job.unit moves reason)

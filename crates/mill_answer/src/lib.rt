@@ -22,7 +22,7 @@ mod word;
 pub use faults::{line_of_fault, line_of_word_fault, status_of_fault};
 pub use laws::one_judgment;
 pub use line::{add_line, line_of};
-pub use print::{line_of_column, line_of_nodes};
+pub use print::{line_of_column, line_of_nodes, line_with_margins};
 pub use status::{Status, exit_code_of};
 pub use telling::{tell, tell_fault, tell_made, tell_memory};
 pub use verdict::{line_of_reason, line_of_verdict, status_of_verdict};

@@ -1,7 +1,7 @@
 //! Lines that several commands print.
 ghost use Rattle.std.specs.Prelude.{◌≡◌, ◌∷◌, ◌++◌, IfOk, map};
 ghost use Rattle.mill_answer.specs.Lines.{line, word_text};
-ghost use Rattle.mill_answer.specs.Printed.{column_words, nodes_line};
+ghost use Rattle.mill_answer.specs.Printed.{column_words, is_exact, margin_words, nodes_line};
 
 use crate::line::line_of;
 use crate::word::Word;
@@ -35,6 +35,40 @@ pub fn line_of_column(
             Length(top, unit),
         ],
     )
+}
+
+/// The line of these words and, where one of them isn't 0, of the overcut and the slack with which
+/// a program was accepted.
+pub fn line_with_margins(
+    alloc: Global,
+    words: &[Word<'_>],
+    overcut: i32,
+    slack: i32,
+    unit: Unit,
+) -> Result<Vec<u8>, WantOfMemory>
+    ensures { IfOk result (λ made. made.items ≡
+        line (map word_text words.now ++ margin_words unit overcut slack)) }
+{
+    if has_no_margin(overcut, slack) {
+        return line_of(alloc, words, &[]);
+    }
+    line_of(
+        alloc,
+        words,
+        &[
+            Text(b"overcut"),
+            Length(overcut, unit),
+            Text(b"slack"),
+            Length(slack, unit),
+        ],
+    )
+}
+
+// Whether an overcut and a slack are both 0.
+fn has_no_margin(overcut: i32, slack: i32) -> bool
+    ensures { result ≡ is_exact overcut slack }
+{
+    overcut == 0 && slack == 0
 }
 
 /// The line of a lattice of too many nodes.

@@ -5,7 +5,7 @@ ghost use Rattle.mill_answer.specs.Statuses.{status_code};
 ghost use Rattle.mill_answer.specs.Verify.{NamesMove, NamesVerdictMove, blocked_words, reason_words, triangle_words, verdict_line, verdict_status};
 
 use crate::line::line_of;
-use crate::print::line_of_column;
+use crate::print::{line_of_column, line_with_margins};
 use crate::status::Status;
 use crate::word::Word;
 use crate::word::Word::{Length, Number, Text};
@@ -58,22 +58,21 @@ fn line_of_acceptance(
 ) -> Result<Vec<u8>, WantOfMemory>
     ensures { IfOk result (λ made. made.items ≡ verdict_line job.now.fields [] (Verdict.Accept count columns most_left)) }
 {
-    line_of(
-        alloc,
-        &[Text(b"accepted")],
-        &[
-            Text(b"moves"),
-            Number(count),
-            Text(b"columns"),
-            Number(columns),
-            Text(b"left"),
-            Length(most_left, job.fields.unit),
-            Text(b"band"),
-            Length(job.fields.band, job.fields.unit),
-            Text(b"allowance"),
-            Length(job.fields.allowance, job.fields.unit),
-        ],
-    )
+    let unit = job.fields.unit;
+    let words = [
+        Text(b"accepted"),
+        Text(b"moves"),
+        Number(count),
+        Text(b"columns"),
+        Number(columns),
+        Text(b"left"),
+        Length(most_left, unit),
+        Text(b"band"),
+        Length(job.fields.band, unit),
+        Text(b"allowance"),
+        Length(job.fields.allowance, unit),
+    ];
+    line_with_margins(alloc, &words, job.fields.overcut, job.fields.slack, unit)
 }
 
 /// The line of the words `start` and then those of a reason, which counts these moves. Lengths are in

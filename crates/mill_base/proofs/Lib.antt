@@ -12,3 +12,4 @@ pub mod Exit
 pub mod Ranges
 pub mod NodeLemmas
 pub mod SolidLemmas
+pub mod Extremes

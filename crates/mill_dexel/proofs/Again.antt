@@ -12,15 +12,17 @@ use Rattle.mill_base.specs.Points.{point_at}
 use Rattle.mill_base.specs.declared.points.Pt3.{Pt3}
 use Rattle.mill_base.specs.declared.motion.Move.{Move}
 use Rattle.mill_base.specs.declared.cutter.Cutter.{Cutter}
+use Rattle.mill_job.specs.Solids.{inner_of}
+use Rattle.mill_base.specs.Solids.{solid_tip}
 use Rattle.mill_job.specs.declared.fields.JobFields.{JobFields}
 use Rattle.mill_job.specs.Columns.{column_x, column_y}
 use Rattle.mill_sweep.specs.Leaves.{end_of}
 use Rattle.mill_dexel.specs.declared.sample.Placed.{Placed}
-use Rattle.mill_dexel.specs.Samples.{placed, sample_at, split_of, sample_centre, is_at_whole_place}
+use Rattle.mill_dexel.specs.Samples.{is_at_whole_place, placed, raised_sample, sample_at, sample_centre, split_of}
 use Rattle.mill_dexel.specs.Tops.{lowered_to, top_after_sample, top_after_move, tops_after_move}
 use Rattle.mill_dexel.specs.Rows.{top_at}
 use Rattle.mill_dexel.specs.inner.Cuts.{IsCutBy, IsCutAt}
-use Rattle.mill_dexel.proofs.Heights.{greater_left, greater_is, greater_of_less, lesser_left, lesser_right}
+use Rattle.mill_base.proofs.Extremes.{greater_left, greater_is, greater_of_less, lesser_left, lesser_right}
 use Rattle.mill_dexel.proofs.Reaches.{kept_over}
 use Rattle.mill_dexel.proofs.EndCerts.{weighed_start, weighed_end, whole_least, whole_most}
 use Rattle.mill_dexel.proofs.InnerCerts.{nearest_low, nearest_high}
@@ -127,29 +129,29 @@ cut_at_end job j m tops = record { columns = refl; each = λ i within. each i (r
     before_last : ℕ → ℤ
     before_last i = top_of_first job j m (split_of job.sample m) (2 ^ split_of job.sample m) tops i
 
-    last : (i : ℕ) → top_of_first job j m (split_of job.sample m) (2 ^ split_of job.sample m + 1) tops i ≡ top_after_sample job.floor (column_x job i) (column_y job j) (before_last i) (Some (placed job.cutter m.to))
+    last : (i : ℕ) → top_of_first job j m (split_of job.sample m) (2 ^ split_of job.sample m + 1) tops i ≡ top_after_sample job.floor (column_x job i) (column_y job j) (before_last i) (Some (placed (inner_of job).cutter (solid_tip (inner_of job) (pos 1) m.to)))
     last i =
         first_and_one job j m (split_of job.sample m) (2 ^ split_of job.sample m) tops i
-        ∙ ap (top_after_sample job.floor (column_x job i) (column_y job j) (before_last i)) (sample_at-end job.cutter m (split_of job.sample m))
+        ∙ ap (top_after_sample job.floor (column_x job i) (column_y job j) (before_last i)) (ap (raised_sample (inner_of job).lift) (sample_at-end (inner_of job).cutter m (split_of job.sample m)))
 
-    top : (i : ℕ) → i < length tops → top_at (tops_after_move job j 0 m tops) i ≡ top_after_sample job.floor (column_x job i) (column_y job j) (before_last i) (Some (placed job.cutter m.to))
+    top : (i : ℕ) → i < length tops → top_at (tops_after_move job j 0 m tops) i ≡ top_after_sample job.floor (column_x job i) (column_y job j) (before_last i) (Some (placed (inner_of job).cutter (solid_tip (inner_of job) (pos 1) m.to)))
     top i within =
         tops_after_move-at job j 0 m tops i (pos 0) within
         ∙ ap (λ (k : ℕ). top_after_move job (column_x job k) (column_y job j) (top_at tops i) m) (omega arith)
         ∙ last i
 
     each : (i : ℕ) → i < length tops
-        → top_at (tops_after_move job j 0 m tops) i ≡ top_after_sample job.floor (column_x job i) (column_y job j) (top_at (tops_after_move job j 0 m tops) i) (Some (placed job.cutter m.to))
+        → top_at (tops_after_move job j 0 m tops) i ≡ top_after_sample job.floor (column_x job i) (column_y job j) (top_at (tops_after_move job j 0 m tops) i) (Some (placed (inner_of job).cutter (solid_tip (inner_of job) (pos 1) m.to)))
     each i within =
         top i within
-        ∙ sample_again job.floor (column_x job i) (column_y job j) (before_last i) (Some (placed job.cutter m.to))
-        ∙ ap (λ (t : ℤ). top_after_sample job.floor (column_x job i) (column_y job j) t (Some (placed job.cutter m.to))) (sym (top i within))
+        ∙ sample_again job.floor (column_x job i) (column_y job j) (before_last i) (Some (placed (inner_of job).cutter (solid_tip (inner_of job) (pos 1) m.to)))
+        ∙ ap (λ (t : ℤ). top_after_sample job.floor (column_x job i) (column_y job j) t (Some (placed (inner_of job).cutter (solid_tip (inner_of job) (pos 1) m.to)))) (sym (top i within))
 
 -- where a row is cut at a move's start, the move's first sample changes nothing
 first_is_cut : (job : JobFields) (j : ℕ) (m : Move) (d : ℕ) (tops : List ℤ) → IsCutAt job j m.from tops → IsCutByFirst job j m d 1 tops tops
 first_is_cut job j m d tops cut =
     samples_go_on job j m d 0 tops tops tops (samples_start job j m d tops)
-    (subst (λ (s : Option Placed). IsCutBy job j s tops tops) (sym (sample_at-start job.cutter m d)) cut)
+    (subst (λ (s : Option Placed). IsCutBy job j s tops tops) (sym (ap (raised_sample (inner_of job).lift) (sample_at-start (inner_of job).cutter m d))) cut)
 
 -- so a move's samples may begin from number 1 on where the row is cut at its start, and from 0 on in any row
 pub first_starts : (job : JobFields) (j : ℕ) (m : Move) (d first : ℕ) (last : Option Pt3) (tops : List ℤ) → first ≤ 1 → (first ≡ 1 → last ≡ Some m.from) → IfSome last (λ tip. IsCutAt job j tip tops)

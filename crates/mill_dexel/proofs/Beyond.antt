@@ -7,10 +7,12 @@ use Rattle.mill_base.proofs.Divisions.{half_low, half_high}
 use Rattle.mill_base.specs.Numbers.{round_half_up}
 use Rattle.mill_base.specs.Sizes.{IsCutter, radius_of}
 use Rattle.mill_base.specs.declared.motion.Move.{Move}
+use Rattle.mill_job.specs.Solids.{inner_of}
+use Rattle.mill_base.specs.Solids.{raised}
 use Rattle.mill_job.specs.declared.fields.JobFields.{JobFields}
 use Rattle.mill_job.specs.Columns.{column_y}
 use Rattle.mill_sweep.specs.Leaves.{end_of}
-use Rattle.mill_dexel.specs.Samples.{placed, sample_at, split_of, sample_centre}
+use Rattle.mill_dexel.specs.Samples.{placed, raised_sample, sample_centre, solid_sample_at, split_of}
 use Rattle.mill_dexel.specs.Tops.{tops_after_move}
 use Rattle.mill_dexel.specs.inner.Cuts.{IsCutBy, IsBeyond}
 use Rattle.mill_dexel.proofs.InnerCerts.{between_low, between_high}
@@ -48,19 +50,19 @@ beyond_less : (r s c y : ℤ) → s ≤ℤ r → IsBeyond r c c y → IsBeyond s
 beyond_less r s c y less (inl h) = let l = h.first in inl (record { first = omega (arith, ints); second = omega (arith, ints) })
 beyond_less r s c y less (inr h) = let l = h.first in inr (record { first = omega (arith, ints); second = omega (arith, ints) })
 
-module _ (job : JobFields) (j : ℕ) (m : Move) (old : List ℤ) (size : IsCutter job.cutter) (beyond : IsBeyond (radius_of job.cutter) m.from.y m.to.y (column_y job j)) where
-  sample_keeps : (d k : ℕ) → k ≤ 2 ^ d → IsCutBy job j (sample_at job.cutter m d k) old old
+module _ (job : JobFields) (j : ℕ) (m : Move) (old : List ℤ) (size : IsCutter (inner_of job).cutter) (beyond : IsBeyond (radius_of (inner_of job).cutter) m.from.y m.to.y (column_y job j)) where
+  sample_keeps : (d k : ℕ) → k ≤ 2 ^ d → IsCutBy job j (solid_sample_at (inner_of job) m d k) old old
   sample_keeps d k within =
-      sample_cases job.cutter m d k (λ s. IsCutBy job j s old old)
-      (λ whole. beyond_keeps job j (placed job.cutter (sample_centre m d k)) old size centre)
+      sample_cases (inner_of job).cutter m d k (λ s. IsCutBy job j (raised_sample (inner_of job).lift s) old old)
+      (λ whole. beyond_keeps job j (placed (inner_of job).cutter (raised (inner_of job).lift (pos 1) (sample_centre m d k))) old size centre)
       (none_keeps job j old)
       (λ n e.
-      let narrow = inner_is job.cutter n size e in
-      beyond_keeps job j (narrow_sample job.cutter m d k n) old narrow.size
-      (beyond_less (radius_of job.cutter) (radius_of n) (sample_centre m d k).y (column_y job j) (less (radius_of n) (radius_of job.cutter) narrow.radius) centre))
+      let narrow = inner_is (inner_of job).cutter n size e in
+      beyond_keeps job j (placed n (raised (inner_of job).lift (pos 1) (narrow_sample (inner_of job).cutter m d k n).tip)) old narrow.size
+      (beyond_less (radius_of (inner_of job).cutter) (radius_of n) (sample_centre m d k).y (column_y job j) (less (radius_of n) (radius_of (inner_of job).cutter) narrow.radius) centre))
     where
-      centre : IsBeyond (radius_of job.cutter) (sample_centre m d k).y (sample_centre m d k).y (column_y job j)
-      centre = beyond_centre (radius_of job.cutter) (column_y job j) m.from.y m.to.y d k within beyond
+      centre : IsBeyond (radius_of (inner_of job).cutter) (sample_centre m d k).y (sample_centre m d k).y (column_y job j)
+      centre = beyond_centre (radius_of (inner_of job).cutter) (column_y job j) m.from.y m.to.y d k within beyond
 
       less : (a b : ℤ) → a +ℤ pos 1 ≡ b → a ≤ℤ b
       less a b h = omega (arith, ints)

@@ -5,10 +5,11 @@ use Rattle.std.proofs.lemmas.Bool.{cases_lt}
 use Rattle.std.proofs.lemmas.Int.{ints}
 use Rattle.std.proofs.Math.Seq.{drop-nil}
 use Rattle.std.proofs.lemmas.List.Sums.{fold-append}
-use Rattle.mill_base.proofs.SolidLemmas.{cutter_is_solid}
 use Rattle.mill_base.specs.Ranges.{MoveInRange, MovesInRange}
 use Rattle.mill_base.specs.Solids.{IsSolid, Solid}
 use Rattle.mill_base.specs.declared.motion.Move.{Move}
+use Rattle.mill_job.specs.Solids.{holder_solid_of, inner_of}
+use Rattle.mill_job.proofs.SolidFacts.{holder_solid_ok, inner_ok, stock_solid_ok}
 use Rattle.mill_job.specs.declared.fields.JobFields.{JobFields}
 use Rattle.mill_job.specs.Jobs.{IsJob}
 use Rattle.mill_job.specs.Columns.{column_y}
@@ -22,7 +23,7 @@ use Rattle.mill_dexel.specs.inner.Passing.{IsAway, PassesOver}
 use Rattle.mill_dexel.specs.declared.fail.RowFail.{RowFail}
 use Rattle.mill_dexel.specs.declared.band.Band.{Band}
 use Rattle.mill_dexel.proofs.Beyond.{move_keeps}
-use Rattle.mill_dexel.proofs.Reaches.{past_margin}
+use Rattle.mill_dexel.proofs.Reaches.{past_margin, stock_beyond}
 use Rattle.mill_dexel.proofs.RunLaws.{IsRunTo, move_read, run_more, run_ended}
 use Rattle.mill_dexel.proofs.Trials.{far_passes_row}
 
@@ -150,8 +151,8 @@ turns_end job moves limit old new all = by old.failed
 -- a move that stays away from a row passes each of its columns, by its cutter and by its holder, and so the row
 away_clears : (job : JobFields) (r : RowState) (m : Move) → IsJob job → MoveInRange m → IsAway job m.from.y m.to.y (column_y job r.row) → ClearsRow job r m
 away_clears job r m is_job range away = record {
-  cut = λ tested. far_passes_row job (cutting job m.kind m) r (cutter_is_solid job.cutter is_job.cutter_ok) range away.cut;
-  holder = held job.holder is_job.holder_ok away.holder;
+  cut = λ tested. far_passes_row job (cutting job m.kind m) r (stock_solid_ok job is_job) range (stock_beyond job m.from.y m.to.y (column_y job r.row) is_job away.cut);
+  holder = held (holder_solid_of job) (holder_solid_ok job is_job) away.holder;
 }
   where
     held : (o : Option Solid) → IfSome o IsSolid → IfSome o (λ holder. IsBeyond (margin_of holder.cutter) m.from.y m.to.y (column_y job r.row)) → IfSome o (λ holder. HolderPassesRow holder job r m)
@@ -179,8 +180,8 @@ in_band_beyond distance y low high m inside (inr h) = let l = h.second in let a 
 
 in_band_away : (job : JobFields) (y low high : ℤ) (m : Move) → IsInBand low high m → IsAway job low high y → IsAway job m.from.y m.to.y y
 in_band_away job y low high m inside away = record {
-  cut = in_band_beyond (margin_of job.cutter) y low high m inside away.cut;
-  holder = held job.holder away.holder;
+  cut = in_band_beyond (margin_of (inner_of job).cutter) y low high m inside away.cut;
+  holder = held (holder_solid_of job) away.holder;
 }
   where
     held : (o : Option Solid) → IfSome o (λ holder. IsBeyond (margin_of holder.cutter) low high y) → IfSome o (λ holder. IsBeyond (margin_of holder.cutter) m.from.y m.to.y y)
@@ -214,7 +215,7 @@ module _ (job : JobFields) (moves : List Move) (old now : RowState) (start : ℕ
       → IsRunTo job moves old (passing (k + 1)) (k + 1)
   past_one k there far before =
       run_more job moves old (passing k) (passing (k + 1)) k there before (away_clears job (passing k) (move_at moves k) is_job (contained moves k range there) far)
-      (ap (λ (ts : List ℤ). record now { tops = ts; done = k + 1 }) (move_keeps job now.row (move_at moves k) now.tops is_job.cutter_ok (past_margin job.cutter (move_at moves k).from.y (move_at moves k).to.y (column_y job now.row) far.cut)))
+      (ap (λ (ts : List ℤ). record now { tops = ts; done = k + 1 }) (move_keeps job now.row (move_at moves k) now.tops (inner_ok job is_job).cutter_ok (past_margin (inner_of job).cutter (move_at moves k).from.y (move_at moves k).to.y (column_y job now.row) far.cut)))
       (record { there = run.is_row.there; columns = run.is_row.columns; in_stock = run.is_row.in_stock })
 
   pub run_past : (more : ℕ) → start + more ≤ length moves

@@ -1,7 +1,7 @@
 -- A move's last sample frees the cutter at the move's end of every column's top, and no later cut takes that back.
 use Rattle.std.specs.Prelude.{◌≡◌, zero, suc, ◌^◌, Bool, true, false, cond, if◌then◌else◌, ℤ, pos, ◌+ℤ◌, ◌-ℤ◌, ◌*ℤ◌, ◌<ℤ◌, ◌≤ℤ◌, int_lt, List, [], ◌∷◌, fold, map, Contains, Option, Some, None}
 use Rattle.std.specs.List.{range_with_len}
-use Rattle.std.proofs.Common.{inl, inr, refl, sym, subst, arith}
+use Rattle.std.proofs.Common.{inl, inr, ap, refl, sym, subst, arith}
 use Rattle.std.proofs.lemmas.Int.{ints}
 use Rattle.std.proofs.lemmas.List.Elements.{Contains-append_cases}
 use Rattle.std.proofs.lemmas.List.FromFn.{map-range_with_len_more}
@@ -20,13 +20,20 @@ use Rattle.mill_shape.proofs.Holding.{holds_near, holds_over_tip}
 use Rattle.mill_shape.proofs.Over.{holds_over}
 use Rattle.mill_sweep.proofs.Passing.{radius_least}
 use Rattle.mill_sweep.proofs.Vertical.{vertical_passes_point}
+use Rattle.mill_base.specs.Solids.{Solid, SolidHolds, higher, lifted, solid_tip}
+use Rattle.mill_job.specs.Solids.{inner_of, stock_solid_of}
+use Rattle.mill_job.proofs.SolidFacts.{inner_lift, inner_ok, stock_in_inner}
+use Rattle.mill_job.specs.Jobs.{IsJob}
+use Rattle.mill_sweep.specs.Vertical.{StaysOver}
+use Rattle.mill_margin.proofs.Nesting.{inside_is_held}
+use Rattle.mill_base.proofs.SolidLemmas.{higher_once}
 use Rattle.mill_job.specs.declared.fields.JobFields.{JobFields}
 use Rattle.mill_dexel.specs.declared.sample.Placed.{Placed}
-use Rattle.mill_dexel.specs.Samples.{placed, sample_at, samples, split_of}
+use Rattle.mill_dexel.specs.Samples.{placed, raised_sample, samples, solid_sample_at, split_of}
 use Rattle.mill_dexel.specs.Tops.{lowered_to, top_after_sample, top_after_move, top_after}
 use Rattle.mill_dexel.specs.Laws.{CutAtEnd, PassesAfterCut}
 use Rattle.mill_dexel.proofs.Ends.{last_sample}
-use Rattle.mill_dexel.proofs.Heights.{lesser_left}
+use Rattle.mill_base.proofs.Extremes.{lesser_left}
 
 lesser_right : (a b : ℤ) → lesser a b ≤ℤ b
 lesser_right a b = by (int_lt b a) refl
@@ -88,47 +95,52 @@ module _ (cutter : Cutter) (t : Pt3) (x y : ℤ) where
           (free_lower (lesser top h) h (lesser_right top h) (cut_height_is_greatest cutter t x y h (cutter_is_wide cutter MAX_RADIUS (omega (arith, ints)) size) e).free)
 
 -- no cut of a job takes it back
-module _ (job : JobFields) (t : Pt3) (x y : ℤ) (size : IsCutter job.cutter) (low : job.floor ≤ℤ t.z) where
-  lowered_keeps : (top : ℤ) (cut : Option ℤ) → IsFreeAt job.cutter t x y top → IsFreeAt job.cutter t x y (lowered_to job.floor top cut)
+module _ (job : JobFields) (cutter : Cutter) (t : Pt3) (x y : ℤ) (size : IsCutter cutter) (low : job.floor ≤ℤ t.z) where
+  lowered_keeps : (top : ℤ) (cut : Option ℤ) → IsFreeAt cutter t x y top → IsFreeAt cutter t x y (lowered_to job.floor top cut)
   lowered_keeps top None free = free
   lowered_keeps top (Some h) free =
-      greater_is (IsFreeAt job.cutter t x y) job.floor (lesser top h) (free_under_tip job.cutter t x y job.floor size low)
-      (free_lower job.cutter t x y (lesser top h) top (lesser_left top h) free)
+      greater_is (IsFreeAt cutter t x y) job.floor (lesser top h) (free_under_tip cutter t x y job.floor size low)
+      (free_lower cutter t x y (lesser top h) top (lesser_left top h) free)
 
-  sample_keeps : (top : ℤ) (s : Option Placed) → IsFreeAt job.cutter t x y top → IsFreeAt job.cutter t x y (top_after_sample job.floor x y top s)
+  sample_keeps : (top : ℤ) (s : Option Placed) → IsFreeAt cutter t x y top → IsFreeAt cutter t x y (top_after_sample job.floor x y top s)
   sample_keeps top None free = free
   sample_keeps top (Some s) free = lowered_keeps top (cut_height_of s.cutter s.tip x y) free
 
-  samples_keep : (top : ℤ) (places : List (Option Placed)) → IsFreeAt job.cutter t x y top → IsFreeAt job.cutter t x y (fold (top_after_sample job.floor x y) top places)
+  samples_keep : (top : ℤ) (places : List (Option Placed)) → IsFreeAt cutter t x y top → IsFreeAt cutter t x y (fold (top_after_sample job.floor x y) top places)
   samples_keep top [] free = free
   samples_keep top (s ∷ places) free = samples_keep (top_after_sample job.floor x y top s) places (sample_keeps top s free)
 
-  moves_keep : (top : ℤ) (moves : List Move) → IsFreeAt job.cutter t x y top → IsFreeAt job.cutter t x y (fold (top_after_move job x y) top moves)
+  moves_keep : (top : ℤ) (moves : List Move) → IsFreeAt cutter t x y top → IsFreeAt cutter t x y (fold (top_after_move job x y) top moves)
   moves_keep top [] free = free
-  moves_keep top (m ∷ moves) free = moves_keep (top_after_move job x y top m) moves (samples_keep top (samples job.cutter job.sample m) free)
+  moves_keep top (m ∷ moves) free = moves_keep (top_after_move job x y top m) moves (samples_keep top (samples (inner_of job) job.sample m) free)
+
+-- where the inner solid's tip is with the tool's at the end of a move
+abbrev end_tip : JobFields → Move → Pt3
+end_tip job m = solid_tip (inner_of job) (pos 1) m.to
 
 -- a move ends with the sample at its end
-module _ (job : JobFields) (m : Move) (x y : ℤ) (size : IsCutter job.cutter) (low : job.floor ≤ℤ m.to.z) where
-  move_frees : (top : ℤ) → IsFreeAt job.cutter m.to x y (top_after_move job x y top m)
+module _ (job : JobFields) (m : Move) (x y : ℤ) (size : IsCutter (inner_of job).cutter) (low : job.floor ≤ℤ (end_tip job m).z) where
+  move_frees : (top : ℤ) → IsFreeAt (inner_of job).cutter (end_tip job m) x y (top_after_move job x y top m)
   move_frees top =
       let d = split_of job.sample m in
-      let before = map (sample_at job.cutter m d) (range_with_len 0 (2 ^ d)) in
-      subst (λ (places : List (Option Placed)). IsFreeAt job.cutter m.to x y (fold (top_after_sample job.floor x y) top places))
-      (sym (map-range_with_len_more (sample_at job.cutter m d) 0 (2 ^ d) (2 ^ d) (omega arith)))
-      (subst (IsFreeAt job.cutter m.to x y)
-      (sym (fold-append (top_after_sample job.floor x y) top before (sample_at job.cutter m d (2 ^ d) ∷ [])))
-      (at_last (fold (top_after_sample job.floor x y) top before) (sample_at job.cutter m d (2 ^ d)) (last_sample job.cutter m d)))
+      let before = map (solid_sample_at (inner_of job) m d) (range_with_len 0 (2 ^ d)) in
+      subst (λ (places : List (Option Placed)). IsFreeAt (inner_of job).cutter (end_tip job m) x y (fold (top_after_sample job.floor x y) top places))
+      (sym (map-range_with_len_more (solid_sample_at (inner_of job) m d) 0 (2 ^ d) (2 ^ d) (omega arith)))
+      (subst (IsFreeAt (inner_of job).cutter (end_tip job m) x y)
+      (sym (fold-append (top_after_sample job.floor x y) top before (solid_sample_at (inner_of job) m d (2 ^ d) ∷ [])))
+      (at_last (fold (top_after_sample job.floor x y) top before) (solid_sample_at (inner_of job) m d (2 ^ d)) (ap (raised_sample (inner_of job).lift) (last_sample (inner_of job).cutter m d))))
     where
-      at_last : (between : ℤ) (s : Option Placed) → s ≡ Some (placed job.cutter m.to) → IsFreeAt job.cutter m.to x y (top_after_sample job.floor x y between s)
+      at_last : (between : ℤ) (s : Option Placed) → s ≡ Some (placed (inner_of job).cutter (end_tip job m))
+          → IsFreeAt (inner_of job).cutter (end_tip job m) x y (top_after_sample job.floor x y between s)
       at_last between s e =
-          subst (λ (o : Option Placed). IsFreeAt job.cutter m.to x y (top_after_sample job.floor x y between o)) (sym e)
-          (cut_frees job.cutter m.to x y job.floor between size low)
+          subst (λ (o : Option Placed). IsFreeAt (inner_of job).cutter (end_tip job m) x y (top_after_sample job.floor x y between o)) (sym e)
+          (cut_frees (inner_of job).cutter (end_tip job m) x y job.floor between size low)
 
-  moves_free : (top : ℤ) (moves : List Move) → Contains moves m → IsFreeAt job.cutter m.to x y (fold (top_after_move job x y) top moves)
+  moves_free : (top : ℤ) (moves : List Move) → Contains moves m → IsFreeAt (inner_of job).cutter (end_tip job m) x y (fold (top_after_move job x y) top moves)
   moves_free top [] (i, less, e) = absurd (omega arith)
   moves_free top (n ∷ moves) member = elim (Contains-append_cases (n ∷ []) moves m member) [
-    | inl first ↦ moves_keep job m.to x y size low (top_after_move job x y top n) moves
-        (subst (λ (o : Move). IsFreeAt job.cutter m.to x y (top_after_move job x y top o)) (only n first) (move_frees top))
+    | inl first ↦ moves_keep job (inner_of job).cutter (end_tip job m) x y size low (top_after_move job x y top n) moves
+        (subst (λ (o : Move). IsFreeAt (inner_of job).cutter (end_tip job m) x y (top_after_move job x y top o)) (only n first) (move_frees top))
     | inr later ↦ moves_free (top_after_move job x y top n) moves later
   ]
     where
@@ -136,9 +148,37 @@ module _ (job : JobFields) (m : Move) (x y : ℤ) (size : IsCutter job.cutter) (
       only n (zero, less, e) = sym e
       only n (suc i, less, e) = absurd (omega arith)
 
+-- the inner solid's tip is at or over the tool's
+over_floor_too : (job : JobFields) (m : Move) → IsJob job → job.floor ≤ℤ m.to.z → job.floor ≤ℤ (end_tip job m).z
+over_floor_too job m ok low = subst (λ (z : ℤ). job.floor ≤ℤ z) (sym (higher_once m.to.z (inner_of job).lift)) (up job.floor m.to.z (inner_of job).lift low (inner_lift job ok).low)
+  where
+    up : (f z l : ℤ) → f ≤ℤ z → (pos 0) ≤ℤ l → f ≤ℤ (z +ℤ l)
+    up f z l h k = omega (h, k, arith, ints)
+
 pub cut_at_end : CutAtEnd
-cut_at_end job moves m x y size member low = moves_free job m x y size low job.top moves member
+cut_at_end job moves m x y ok member low = moves_free job m x y (inner_ok job ok).cutter_ok (over_floor_too job m ok low) job.top moves member
+
+-- so the stock solid, which lies in the inner one, doesn't hold it either
+pub stock_solid_free : (job : JobFields) (moves : List Move) (m : Move) (x y : ℤ) → IsJob job → Contains moves m → job.floor ≤ℤ m.to.z
+    → ¬ SolidHolds (stock_solid_of job) (pos 1) m.to (pos 1) (point_at x y (top_after job x y moves))
+stock_solid_free job moves m x y ok member low held =
+    cut_at_end job moves m x y ok member low
+    (inside_is_held (stock_solid_of job) (inner_of job) (pos 1) (pos 1) m.to (point_at x y (top_after job x y moves)) (inner_ok job ok).cutter_ok (stock_in_inner job ok) (omega (arith, ints)) (omega (arith, ints)) held)
+
+-- a solid's tip stays over where it is with the tool's at a place, if the tool's stays over the place
+pub solid_stays_over : (solid : Solid) (p : Pt3) (m : Move) → StaysOver p m → StaysOver (solid_tip solid (pos 1) p) (lifted solid m)
+solid_stays_over solid p m over = record {
+  from = record { x_same = over.from.x_same; y_same = over.from.y_same; z_least = both over.from.z_least };
+  to = record { x_same = over.to.x_same; y_same = over.to.y_same; z_least = both over.to.z_least };
+}
+  where
+    both : {a b : ℤ} → a ≤ℤ b → higher (pos 1) a solid.lift ≤ℤ higher (pos 1) b solid.lift
+    both {a} {b} h = rw (higher_once a solid.lift, higher_once b solid.lift) (more a b solid.lift h)
+      where
+        more : (a b l : ℤ) → a ≤ℤ b → (a +ℤ l) ≤ℤ (b +ℤ l)
+        more a b l h = omega (h, arith, ints)
 
 pub passes_after_cut : PassesAfterCut
-passes_after_cut job moves m next x y size member low over =
-    vertical_passes_point job.cutter next (point_at x y (top_after job x y moves)) m.to over (cut_at_end job moves m x y size member low)
+passes_after_cut job moves m next x y ok member low over =
+    vertical_passes_point (stock_solid_of job).cutter (lifted (stock_solid_of job) next) (point_at x y (top_after job x y moves)) (solid_tip (stock_solid_of job) (pos 1) m.to)
+    (solid_stays_over (stock_solid_of job) m.to next over) (stock_solid_free job moves m x y ok member low)

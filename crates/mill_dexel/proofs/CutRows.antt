@@ -12,11 +12,12 @@ use Rattle.std.proofs.Math.Nat.{eq-or-lt_of_le}
 use Rattle.std.proofs.lemmas.Int.{ints}
 use Rattle.mill_base.specs.Sizes.{IsCutter, radius_of, cut_height_of}
 use Rattle.mill_base.specs.declared.motion.Move.{Move}
+use Rattle.mill_job.specs.Solids.{inner_of}
 use Rattle.mill_job.specs.declared.fields.JobFields.{JobFields}
 use Rattle.mill_job.specs.Columns.{row_count, column_count, column_x, column_y}
 use Rattle.mill_job.specs.Jobs.{IsJob, IsFrom}
 use Rattle.mill_dexel.specs.declared.sample.Placed.{Placed}
-use Rattle.mill_dexel.specs.Samples.{sample_at, split_of}
+use Rattle.mill_dexel.specs.Samples.{solid_sample_at, split_of}
 use Rattle.mill_dexel.specs.Tops.{lowered_to, top_after_sample, top_after_move, tops_after_move}
 use Rattle.mill_dexel.specs.Rows.{RowState, IsRowOf, top_at}
 use Rattle.mill_dexel.specs.inner.Cuts.{IsCutBy, IsReachBy, IsBeyond, IsHalfChord}
@@ -105,7 +106,7 @@ none_keeps job j old = record { columns = refl; each = λ k within. refl }
 
 -- the tops after the first k samples of a move
 abbrev pub top_of_first : JobFields → ℕ → Move → ℕ → ℕ → List ℤ → ℕ → ℤ
-top_of_first job j m d k tops i = fold (top_after_sample job.floor (column_x job i) (column_y job j)) (top_at tops i) (map (sample_at job.cutter m d) (range_with_len 0 k))
+top_of_first job j m d k tops i = fold (top_after_sample job.floor (column_x job i) (column_y job j)) (top_at tops i) (map (solid_sample_at (inner_of job) m d) (range_with_len 0 k))
 
 pub record IsCutByFirst (job : JobFields) (j : ℕ) (m : Move) (d k : ℕ) (old new : List ℤ) : Type 0 where
   pub columns : length new ≡ length old
@@ -116,19 +117,19 @@ samples_start job j m d old = record { columns = refl; each = λ i within. refl 
 
 -- one sample more
 pub first_and_one : (job : JobFields) (j : ℕ) (m : Move) (d k : ℕ) (old : List ℤ) (i : ℕ)
-    → top_of_first job j m d (k + 1) old i ≡ top_after_sample job.floor (column_x job i) (column_y job j) (top_of_first job j m d k old i) (sample_at job.cutter m d k)
+    → top_of_first job j m d (k + 1) old i ≡ top_after_sample job.floor (column_x job i) (column_y job j) (top_of_first job j m d k old i) (solid_sample_at (inner_of job) m d k)
 first_and_one job j m d k old i =
     ap (λ (places : List (Option Placed)). fold (top_after_sample job.floor (column_x job i) (column_y job j)) (top_at old i) places)
-    (map-range_with_len_more (sample_at job.cutter m d) 0 k k (omega arith))
-    ∙ fold-append (top_after_sample job.floor (column_x job i) (column_y job j)) (top_at old i) (map (sample_at job.cutter m d) (range_with_len 0 k)) (sample_at job.cutter m d k ∷ [])
+    (map-range_with_len_more (solid_sample_at (inner_of job) m d) 0 k k (omega arith))
+    ∙ fold-append (top_after_sample job.floor (column_x job i) (column_y job j)) (top_at old i) (map (solid_sample_at (inner_of job) m d) (range_with_len 0 k)) (solid_sample_at (inner_of job) m d k ∷ [])
 
-pub samples_go_on : (job : JobFields) (j : ℕ) (m : Move) (d k : ℕ) (old mid new : List ℤ) → IsCutByFirst job j m d k old mid → IsCutBy job j (sample_at job.cutter m d k) mid new
+pub samples_go_on : (job : JobFields) (j : ℕ) (m : Move) (d k : ℕ) (old mid new : List ℤ) → IsCutByFirst job j m d k old mid → IsCutBy job j (solid_sample_at (inner_of job) m d k) mid new
     → IsCutByFirst job j m d (k + 1) old new
 samples_go_on job j m d k old mid new so_far cut = record {
   columns = cut.columns ∙ so_far.columns;
   each = λ i within.
       cut.each i (in_mid i within)
-      ∙ ap (λ t. top_after_sample job.floor (column_x job i) (column_y job j) t (sample_at job.cutter m d k)) (so_far.each i within)
+      ∙ ap (λ t. top_after_sample job.floor (column_x job i) (column_y job j) t (solid_sample_at (inner_of job) m d k)) (so_far.each i within)
       ∙ sym (first_and_one job j m d k old i);
 }
   where

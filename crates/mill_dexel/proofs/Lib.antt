@@ -1,4 +1,3 @@
-mod Heights
 mod FarCerts
 mod InnerCerts
 mod Inner
@@ -8,6 +7,7 @@ mod Chords
 mod CutRows
 mod EndCerts
 mod Again
+mod Raising
 mod Beyond
 mod LineCerts
 mod Lines

@@ -17,7 +17,7 @@ use Rattle.mill_job.specs.Jobs.{IsFrom}
 use Rattle.mill_sweep.specs.Leaves.{depth_of, span_of, outer_tip}
 use Rattle.mill_sweep.specs.Halving.{Blocks, IsFree, LeafPasses, Passes, PassesPoint}
 use Rattle.mill_sweep.specs.declared.leaf.Span.{Span}
-use Rattle.mill_dexel.proofs.Heights.{greater_left, greater_least}
+use Rattle.mill_base.proofs.Extremes.{greater_left, greater_least}
 use Rattle.mill_dexel.proofs.LineCerts.{line_mean, line_end, line_some, line_part, line_weights, line_times, line_parts, line_level, line_offset, line_denominator, line_height}
 
 -- the points from x0 to x1 at y, all at one height, as a flat triangle

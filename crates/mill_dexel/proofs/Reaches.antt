@@ -18,6 +18,8 @@ use Rattle.mill_base.proofs.Integers.{sq-ℤ}
 use Rattle.mill_shape.proofs.CutHeights.{cut_height_is_greatest, cutter_is_wide}
 use Rattle.mill_shape.proofs.Holding.{holds_over_tip}
 use Rattle.mill_job.specs.Jobs.{IsJob}
+use Rattle.mill_job.specs.Solids.{holder_solid_of, inner_of, stock_solid_of}
+use Rattle.mill_job.proofs.SolidFacts.{held_wider, stock_in_inner}
 use Rattle.mill_job.specs.declared.fields.JobFields.{JobFields}
 use Rattle.mill_sweep.specs.Reach.{margin_of}
 use Rattle.mill_sweep.proofs.Passing.{radius_least}
@@ -106,18 +108,25 @@ module _ (job : JobFields) (a b y : ℤ) where
   abbrev HolderIsBeyond : Option Solid → Type 0
   HolderIsBeyond o = IfSome o (λ holder. IsBeyond (margin_of holder.cutter) a b y)
 
-  pub away_bare : job.holder ≡ None → IsBeyond (margin_of job.cutter) a b y → IsAway job a b y
+  pub away_bare : holder_solid_of job ≡ None → IsBeyond (margin_of (inner_of job).cutter) a b y → IsAway job a b y
   away_bare none beyond = record { cut = beyond; holder = subst HolderIsBeyond (sym none) tt }
 
-  pub away_held : (holder : Solid) → IsJob job → job.holder ≡ Some holder → IsBeyond (margin_of holder.cutter) a b y → IsAway job a b y
+  pub away_held : (holder : Solid) → IsJob job → holder_solid_of job ≡ Some holder → IsBeyond (margin_of holder.cutter) a b y → IsAway job a b y
   away_held holder is_job there beyond = record {
-    cut = nearer (margin_of job.cutter) (margin_of holder.cutter) a b y
-        (wide (radius_of job.cutter) (radius_of holder.cutter) (subst (λ (o : Option Solid). IfSome o (λ holder. radius_of job.cutter <ℤ radius_of holder.cutter)) there is_job.wider)) beyond;
+    cut = nearer (margin_of (inner_of job).cutter) (margin_of holder.cutter) a b y
+        (wide (radius_of (inner_of job).cutter) (radius_of holder.cutter) (subst (λ (o : Option Solid). IfSome o (λ h. radius_of (inner_of job).cutter <ℤ radius_of h.cutter)) there (held_wider job is_job))) beyond;
     holder = subst HolderIsBeyond (sym there) beyond;
   }
     where
       wide : (q r : ℤ) → q <ℤ r → (q +ℤ pos 2) ≤ℤ (r +ℤ pos 2)
       wide q r h = omega (h, arith, ints)
+
+-- what is far from the inner solid is far from the stock solid, which is no wider
+pub stock_beyond : (job : JobFields) (a b y : ℤ) → IsJob job → IsBeyond (margin_of (inner_of job).cutter) a b y → IsBeyond (margin_of (stock_solid_of job).cutter) a b y
+stock_beyond job a b y ok beyond = nearer (margin_of (stock_solid_of job).cutter) (margin_of (inner_of job).cutter) a b y (both (radius_of (stock_solid_of job).cutter) (radius_of (inner_of job).cutter) (stock_in_inner job ok).narrow) beyond
+  where
+    both : (q r : ℤ) → q ≤ℤ r → (q +ℤ pos 2) ≤ℤ (r +ℤ pos 2)
+    both q r h = omega (h, arith, ints)
 
 pub away_same : (job : JobFields) (a b y c d z : ℤ) → a ≡ c → b ≡ d → y ≡ z → IsAway job a b y → IsAway job c d z
 away_same job a b y c d z ea eb ey away = rw (← ea, ← eb, ← ey) away

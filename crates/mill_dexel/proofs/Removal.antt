@@ -1,19 +1,20 @@
--- What is over a column's top was held by the cutter at some sample, and so is removed.
-use Rattle.std.proofs.Common.{◌≡◌, ◌⊎◌, inl, inr, refl, sym, subst, arith}
+-- What is over a column's top was held by the inner solid at some sample, and so is removed.
+use Rattle.std.proofs.Common.{◌≡◌, ◌⊎◌, ◌∙◌, inl, inr, ap, refl, sym, subst, arith}
 use Rattle.std.specs.Prelude.{ℕ, zero, suc, ◌+◌, ◌^◌, ◌<◌, ◌≤◌, Bool, true, false, ◌&&◌, ℤ, pos, ◌+ℤ◌, ◌-ℤ◌, ◌*ℤ◌, ◌<ℤ◌, ◌≤ℤ◌, List, [], ◌∷◌, fold, map, Some}
 use Rattle.std.specs.List.{range_with_len}
 use Rattle.std.proofs.lemmas.Int.{ints}
 use Rattle.std.proofs.lemmas.Nat.{pow_pos}
 use Rattle.std.proofs.lemmas.List.Elements.{Contains-append_right}
 use Rattle.mill_base.proofs.Exit.{split_lt}
-use Rattle.mill_base.proofs.SolidLemmas.{cutter_is_solid}
+use Rattle.mill_base.proofs.Ring.{Var, Num, Sub, Add, Mul, ring}
+use Rattle.mill_base.proofs.SolidLemmas.{higher_is}
 use Rattle.mill_base.proofs.Divisions.{half_low, half_high, ceil_div_high}
 use Rattle.mill_base.specs.Numbers.{square, divides, round_half_up}
 use Rattle.mill_base.specs.Points.{point_at}
 use Rattle.mill_base.specs.Motion.{IsMoment, tip_at}
-use Rattle.mill_base.specs.Contact.{Holds, Removes, IsRemoved}
+use Rattle.mill_base.specs.Contact.{Holds}
 use Rattle.mill_base.specs.Sizes.{IsCutter, radius_of, with_radius, inner, shift, cut_height_of}
-use Rattle.mill_base.specs.Solids.{at_tip}
+use Rattle.mill_base.specs.Solids.{Solid, higher, raised}
 use Rattle.mill_base.specs.declared.points.Pt3.{Pt3}
 use Rattle.mill_base.specs.declared.motion.Move.{Move}
 use Rattle.mill_base.specs.declared.cutter.Cutter.{Cutter}
@@ -21,11 +22,17 @@ use Rattle.mill_base.specs.declared.cutter.Cutter.TheVariants.{Flat, Ball, Cone}
 use Rattle.mill_base.specs.declared.limits.TheConstants.{MAX_RADIUS}
 use Rattle.mill_shape.proofs.CutHeights.{cut_height_is_greatest, cutter_is_wide}
 use Rattle.mill_sweep.specs.Leaves.{end_of}
+use Rattle.mill_sweep.specs.Solids.{SolidPassesPoint}
 use Rattle.mill_sweep.proofs.Passing.{radius_least}
 use Rattle.mill_sweep.proofs.Solids.{passing_keeps_point}
+use Rattle.mill_job.specs.Jobs.{IsJob}
+use Rattle.mill_job.specs.Solids.{inner_of, stock_solid_of}
 use Rattle.mill_job.specs.declared.fields.JobFields.{JobFields}
+use Rattle.mill_job.proofs.NoSlack.{stock_is_inner}
+use Rattle.mill_job.proofs.SolidFacts.{inner_ok}
+use Rattle.mill_dexel.specs.Removed.{IsRemovedBy, SolidRemoves}
 use Rattle.mill_dexel.specs.declared.sample.Placed.{Placed}
-use Rattle.mill_dexel.specs.Samples.{placed, sample_at, split_of, sample_centre, is_at_whole_place}
+use Rattle.mill_dexel.specs.Samples.{placed, raised_sample, sample_at, solid_sample_at, split_of, sample_centre, is_at_whole_place}
 use Rattle.mill_dexel.specs.Tops.{top_after_sample, top_after_move}
 use Rattle.mill_dexel.specs.Laws.{OverTopIsRemoved, PassedIsLeft}
 use Rattle.mill_dexel.proofs.InnerCerts.{nearest_square}
@@ -113,73 +120,96 @@ narrow_holds cutter n m d k p size e held =
     back : (r : ℤ) → (r -ℤ pos 1) +ℤ pos 1 ≡ r
     back r = omega (arith, ints)
 
--- a sample that brings a top under h removes the point at h
-sample_removes : (cutter : Cutter) (m : Move) (d k : ℕ) (floor x y top h : ℤ) → IsCutter cutter → k ≤ 2 ^ d → top_after_sample floor x y top (sample_at cutter m d k) <ℤ h
-    → (top <ℤ h) ⊎ Removes cutter m (pos 1) (point_at x y h)
-sample_removes cutter m d k floor x y top h size at_most =
-    sample_cases cutter m d k (λ s. top_after_sample floor x y top s <ℤ h → (top <ℤ h) ⊎ Removes cutter m (pos 1) (point_at x y h))
-    (λ whole under. elim (sample_holds (placed cutter (sample_centre m d k)) floor x y top h size under) [
+-- a cutter whose tip is raised holds a point where it holds the one as much lower without that
+height_down : (n h z l : ℤ) → ((n *ℤ h) -ℤ ((pos 1) *ℤ (z +ℤ n *ℤ l))) ≡ ((n *ℤ (h -ℤ l)) -ℤ ((pos 1) *ℤ z))
+height_down n h z l =
+    ring (n ∷ h ∷ z ∷ l ∷ []) (Sub (Mul (Var 0) (Var 1)) (Mul (Num (pos 1)) (Add (Var 2) (Mul (Var 0) (Var 3))))) (Sub (Mul (Var 0) (Sub (Var 1) (Var 3))) (Mul (Num (pos 1)) (Var 2))) refl
+
+lowered_is : (n h z l : ℤ) → ((n *ℤ h) -ℤ ((pos 1) *ℤ higher n z l)) ≡ ((n *ℤ (h -ℤ l)) -ℤ ((pos 1) *ℤ z))
+lowered_is n h z l = ap (λ (t : ℤ). (n *ℤ h) -ℤ ((pos 1) *ℤ t)) (higher_is n z l) ∙ height_down n h z l
+
+module _ (cutter : Cutter) (l n : ℤ) (t : Pt3) (x y h : ℤ) where
+  raised_down : Holds cutter n (raised l n t) (pos 1) (point_at x y h) → Holds cutter n t (pos 1) (point_at x y (h -ℤ l))
+  raised_down held = rw (lowered_is n h t.z l) at held
+
+  raised_up : Holds cutter n t (pos 1) (point_at x y (h -ℤ l)) → Holds cutter n (raised l n t) (pos 1) (point_at x y h)
+  raised_up held = rw (lowered_is n h t.z l) held
+
+-- a sample of a solid that brings a top under h removes the point at h
+sample_removes : (solid : Solid) (m : Move) (d k : ℕ) (floor x y top h : ℤ) → IsCutter solid.cutter → k ≤ 2 ^ d → top_after_sample floor x y top (solid_sample_at solid m d k) <ℤ h
+    → (top <ℤ h) ⊎ SolidRemoves solid m (point_at x y h)
+sample_removes solid m d k floor x y top h size at_most =
+    sample_cases solid.cutter m d k (λ s. top_after_sample floor x y top (raised_sample solid.lift s) <ℤ h → (top <ℤ h) ⊎ SolidRemoves solid m (point_at x y h))
+    (λ whole under. elim (sample_holds (placed solid.cutter (raised solid.lift (pos 1) (sample_centre m d k))) floor x y top h size under) [
       | inl before ↦ inl before
-      | inr held ↦ inr (removes (whole_holds cutter m d k (point_at x y h) size whole held))
+      | inr held ↦ inr (removes (whole_holds solid.cutter m d k (point_at x y (h -ℤ solid.lift)) size whole (raised_down solid.cutter solid.lift (pos 1) (sample_centre m d k) x y h held)))
     ])
     (λ under. inl under)
-    (λ n e under. elim (sample_holds (narrow_sample cutter m d k n) floor x y top h (inner_is cutter n size e).size under) [
+    (λ n e under. elim (sample_holds (placed n (raised solid.lift (pos 1) (narrow_sample solid.cutter m d k n).tip)) floor x y top h (inner_is solid.cutter n size e).size under) [
       | inl before ↦ inl before
-      | inr held ↦ inr (removes (narrow_holds cutter n m d k (point_at x y h) size e held))
+      | inr held ↦ inr (removes (narrow_holds solid.cutter n m d k (point_at x y (h -ℤ solid.lift)) size e (raised_down n solid.lift (pos 1) (narrow_sample solid.cutter m d k n).tip x y h held)))
     ])
   where
-    removes : Holds cutter (pos (2 ^ d)) (tip_at m (pos k) (pos (2 ^ d))) (pos 1) (point_at x y h) → Removes cutter m (pos 1) (point_at x y h)
-    removes held = record { k = pos k; m = pos (2 ^ d); moment = moment_is d k at_most; inside = held }
+    removes : Holds solid.cutter (pos (2 ^ d)) (tip_at m (pos k) (pos (2 ^ d))) (pos 1) (point_at x y (h -ℤ solid.lift)) → SolidRemoves solid m (point_at x y h)
+    removes held = record {
+      k = pos k;
+      n = pos (2 ^ d);
+      moment = moment_is d k at_most;
+      inside = raised_up solid.cutter solid.lift (pos (2 ^ d)) (tip_at m (pos k) (pos (2 ^ d))) x y h held;
+    }
 
 -- so do the samples from start on
-samples_remove : (cutter : Cutter) (m : Move) (d : ℕ) (floor x y h : ℤ) (start n : ℕ) (top : ℤ) → IsCutter cutter → start + n ≤ 2 ^ d + 1
-    → fold (top_after_sample floor x y) top (map (sample_at cutter m d) (range_with_len start n)) <ℤ h → (top <ℤ h) ⊎ Removes cutter m (pos 1) (point_at x y h)
-samples_remove cutter m d floor x y h start zero top size within under = inl under
-samples_remove cutter m d floor x y h start (suc n) top size within under =
-    elim (samples_remove cutter m d floor x y h (start + 1) n (top_after_sample floor x y top (sample_at cutter m d start)) size (omega arith) under) [
-      | inl between ↦ sample_removes cutter m d start floor x y top h size (omega arith) between
+samples_remove : (solid : Solid) (m : Move) (d : ℕ) (floor x y h : ℤ) (start n : ℕ) (top : ℤ) → IsCutter solid.cutter → start + n ≤ 2 ^ d + 1
+    → fold (top_after_sample floor x y) top (map (solid_sample_at solid m d) (range_with_len start n)) <ℤ h → (top <ℤ h) ⊎ SolidRemoves solid m (point_at x y h)
+samples_remove solid m d floor x y h start zero top size within under = inl under
+samples_remove solid m d floor x y h start (suc n) top size within under =
+    elim (samples_remove solid m d floor x y h (start + 1) n (top_after_sample floor x y top (solid_sample_at solid m d start)) size (omega arith) under) [
+      | inl between ↦ sample_removes solid m d start floor x y top h size (omega arith) between
       | inr removes ↦ inr removes
     ]
 
 -- a move that brings a top under h removes the point at h
-pub move_removes : (job : JobFields) (x y top h : ℤ) (m : Move) → IsCutter job.cutter → top_after_move job x y top m <ℤ h
-    → (top <ℤ h) ⊎ Removes job.cutter m (pos 1) (point_at x y h)
-move_removes job x y top h m size under =
-    samples_remove job.cutter m (split_of job.sample m) job.floor x y h 0 (2 ^ split_of job.sample m + 1) top size (all (2 ^ split_of job.sample m + 1)) under
+pub move_removes : (job : JobFields) (x y top h : ℤ) (m : Move) → IsJob job → top_after_move job x y top m <ℤ h
+    → (top <ℤ h) ⊎ SolidRemoves (inner_of job) m (point_at x y h)
+move_removes job x y top h m ok under =
+    samples_remove (inner_of job) m (split_of job.sample m) job.floor x y h 0 (2 ^ split_of job.sample m + 1) top (inner_ok job ok).cutter_ok (all (2 ^ split_of job.sample m + 1)) under
   where
     all : (n : ℕ) → 0 + n ≤ n
     all n = omega arith
 
 -- a list of moves that brings a top under h removes the point at h, by one of its moves
-pub moves_remove : (job : JobFields) (x y top h : ℤ) (moves : List Move) → IsCutter job.cutter → fold (top_after_move job x y) top moves <ℤ h
-    → (top <ℤ h) ⊎ IsRemoved job.cutter moves (point_at x y h)
-moves_remove job x y top h [] size under = inl under
-moves_remove job x y top h (m ∷ moves) size under =
-    elim (moves_remove job x y (top_after_move job x y top m) h moves size under) [
-      | inl between ↦ by (move_removes job x y top h m size between)
+pub moves_remove : (job : JobFields) (x y top h : ℤ) (moves : List Move) → IsJob job → fold (top_after_move job x y) top moves <ℤ h
+    → (top <ℤ h) ⊎ IsRemovedBy (inner_of job) moves (point_at x y h)
+moves_remove job x y top h [] ok under = inl under
+moves_remove job x y top h (m ∷ moves) ok under =
+    elim (moves_remove job x y (top_after_move job x y top m) h moves ok under) [
+      | inl between ↦ by (move_removes job x y top h m ok between)
       | inr later ↦ inr (record { move = later.move; member = Contains-append_right (m ∷ []) moves later.move later.member; removes = later.removes })
     ]
   where
-    by : (top <ℤ h) ⊎ Removes job.cutter m (pos 1) (point_at x y h) → (top <ℤ h) ⊎ IsRemoved job.cutter (m ∷ moves) (point_at x y h)
+    by : (top <ℤ h) ⊎ SolidRemoves (inner_of job) m (point_at x y h) → (top <ℤ h) ⊎ IsRemovedBy (inner_of job) (m ∷ moves) (point_at x y h)
     by (inl before) = inl before
     by (inr removes) = inr (record { move = m; member = (0, omega arith, refl); removes = removes })
 
 -- every point of a column over its top, up to the uncut stock's, is removed
 pub over_top_is_removed : OverTopIsRemoved
-over_top_is_removed job moves x y h size in_range stock sample under top =
-    elim (moves_remove job x y job.top h moves size under) [
+over_top_is_removed job moves x y h ok in_range stock under top =
+    elim (moves_remove job x y job.top h moves ok under) [
       | inl before ↦ absurd (omega (arith, ints))
       | inr removed ↦ removed
     ]
 
 -- a move that passes a point of a column, at or under its top, leaves the column up to there: what it takes it would remove
 pub passed_is_left : PassedIsLeft
-passed_is_left job m x y top h size range top_in in_range sample under passes =
+passed_is_left job m x y top h ok bare range top_in in_range under passes =
     elim (split_lt (top_after_move job x y top m) h) [
-      | inl lower ↦ no (move_removes job x y top h m size lower)
+      | inl lower ↦ no (move_removes job x y top h m ok lower)
       | inr left ↦ left
     ]
   where
-    no : (top <ℤ h) ⊎ Removes job.cutter m (pos 1) (point_at x y h) → h ≤ℤ top_after_move job x y top m
+    passes_inner : SolidPassesPoint (inner_of job) m (point_at x y h)
+    passes_inner = subst (λ (s : Solid). SolidPassesPoint s m (point_at x y h)) (stock_is_inner job ok bare) passes
+
+    no : (top <ℤ h) ⊎ SolidRemoves (inner_of job) m (point_at x y h) → h ≤ℤ top_after_move job x y top m
     no (inl before) = absurd (omega (arith, ints))
-    no (inr removes) = absurd (passing_keeps_point (at_tip job.cutter) m x y h h removes.k removes.m (cutter_is_solid job.cutter size) range in_range passes (omega (arith, ints)) removes.moment removes.inside)
+    no (inr removes) = absurd (passing_keeps_point (inner_of job) m x y h h removes.k removes.n (inner_ok job ok) range in_range passes_inner (omega (arith, ints)) removes.moment removes.inside)

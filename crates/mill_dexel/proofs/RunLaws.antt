@@ -1,5 +1,5 @@
 -- A row through its turns: one turn more, the end of the turns, and that the moves determine it.
-use Rattle.std.proofs.Common.{◌≡◌, inl, inr, ℕ, zero, suc, ◌+◌, ◌-◌, ◌*◌, ◌<◌, ◌≤◌, refl, sym, subst, ap, ◌∙◌, length, get_or, take, drop, arith}
+use Rattle.std.proofs.Common.{◌≡◌, inl, inr, ℕ, zero, suc, ◌+◌, ◌-◌, ◌*◌, ◌<◌, ◌≤◌, refl, sym, subst, ap, ◌∙◌, length, get_or, take, drop, arith, rules}
 use Rattle.std.specs.Prelude.{ℤ, List, [], ◌∷◌, All, Option, Some, None, IfSome, MatchOption, slice_range, unwrap_or}
 use Rattle.std.proofs.lemmas.Bool.{cases_lt}
 use Rattle.std.proofs.lemmas.List.{get_or-drop, get_or_default, length-drop}
@@ -14,6 +14,7 @@ use Rattle.mill_sweep.specs.Leaves.{depth_of}
 use Rattle.mill_sweep.specs.Halving.{FailsAt, LeadsTo}
 use Rattle.mill_sweep.specs.Solids.{SolidFailsAt}
 use Rattle.mill_sweep.specs.declared.leaf.Leaf.{Leaf}
+use Rattle.mill_job.specs.Solids.{holder_solid_of}
 use Rattle.mill_job.specs.declared.fields.JobFields.{JobFields}
 use Rattle.mill_job.specs.Columns.{row_count, column_count}
 use Rattle.mill_job.specs.Jobs.{IsFrom}
@@ -66,6 +67,16 @@ below_next P low k before here i from to = elim (cases_lt i k) [
   where
     same : (i k : ℕ) → k ≤ i → i < k + 1 → k ≡ i
     same i k low high = omega (arith, low, high)
+
+-- before its first turn a row is as it was
+pub run_none : (job : JobFields) (moves : List Move) (old : RowState) → old.failed ≡ None → IsRowOf job old → IsRunTo job moves old old old.done
+run_none job moves old unfailed is_row = record {
+  onward = omega arith;
+  passed = λ i from to. absurd (omega (arith, from, to));
+  is = search rules;
+  unfailed = unfailed;
+  is_row = is_row;
+}
 
 pub run_more : (job : JobFields) (moves : List Move) (old now new : RowState) (k : ℕ) → k < length moves → IsRunTo job moves old now k → ClearsRow job now (move_at moves k) → new ≡ turned job (move_at moves k) now
     → IsRowOf job new → IsRunTo job moves old new (k + 1)
@@ -190,7 +201,7 @@ stop_at_one job r m test.Cut test.Cut i k a b h g = let one = first_is_one job (
 stop_at_one job r m test.Cut test.Holder i k a b h g = absurd (cut_stop_fails job r m i a h g.cut)
 stop_at_one job r m test.Holder test.Cut i k a b h g = absurd (cut_stop_fails job r m k b g h.cut)
 stop_at_one job r m test.Holder test.Holder i k a b h g =
-    let same = same_some g.holder.holder h.holder.holder job.holder g.holder.there h.holder.there in
+    let same = same_some g.holder.holder h.holder.holder (holder_solid_of job) g.holder.there h.holder.there in
     let one = first_is_one job (holding h.holder.holder m) r i k a b h.holder.column (subst (λ (holder : Solid). IsFirstStop job (holding holder m) r k b) same g.holder.column) in
     (refl, one.0, one.1)
 

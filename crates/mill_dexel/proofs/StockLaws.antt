@@ -5,16 +5,17 @@ use Rattle.std.proofs.lemmas.Bool.{cases_lt}
 use Rattle.std.proofs.lemmas.List.{get_or_default, get_or_append_left, length-append}
 use Rattle.std.proofs.lemmas.List.Elements.{All-append}
 use Rattle.std.proofs.Math.Seq.{get_or-append_seam}
-use Rattle.mill_base.proofs.SolidLemmas.{cutter_is_solid}
 use Rattle.mill_base.specs.Ranges.{MoveInRange}
-use Rattle.mill_base.specs.Sizes.{IsCutter}
 use Rattle.mill_base.specs.declared.points.Pt3.{Pt3}
 use Rattle.mill_base.specs.declared.motion.Move.{Move}
 use Rattle.mill_base.specs.declared.motion.Kind.{Kind}
 use Rattle.mill_base.specs.declared.motion.Kind.TheVariants.{Feed}
+use Rattle.mill_job.specs.Solids.{inner_of, stock_solid_of}
+use Rattle.mill_job.proofs.SolidFacts.{inner_ok, stock_solid_ok}
+use Rattle.mill_job.specs.Jobs.{IsJob}
 use Rattle.mill_job.specs.declared.fields.JobFields.{JobFields}
 use Rattle.mill_job.specs.Columns.{IsColumn, row_count, column_count, column_y}
-use Rattle.mill_sweep.specs.Halving.{PassesPoint}
+use Rattle.mill_sweep.specs.Solids.{SolidPassesPoint}
 use Rattle.mill_sweep.specs.Reach.{margin_of}
 use Rattle.mill_sweep.specs.declared.leaf.Leaf.{Leaf}
 use Rattle.mill_dexel.specs.inner.Cuts.{IsBeyond, IsRowReach}
@@ -22,7 +23,7 @@ use Rattle.mill_dexel.specs.Tops.{IsTested, ClearsColumns, tested_point, row_aft
 use Rattle.mill_dexel.specs.Rows.{RowState, IsRowOf, cutting, IsFirstStop, PassesRow, row_point, uncut_row}
 use Rattle.mill_dexel.specs.Stocks.{IsRow, IsStock}
 use Rattle.mill_dexel.proofs.Beyond.{move_keeps}
-use Rattle.mill_dexel.proofs.Reaches.{past_margin}
+use Rattle.mill_dexel.proofs.Reaches.{past_margin, stock_beyond}
 use Rattle.mill_dexel.proofs.Trials.{far_passes_row}
 use Rattle.mill_dexel.proofs.RowLaws.{row_after-at, row_after_more, turned_is_row}
 
@@ -40,28 +41,28 @@ ArePassed job m rows first n = (j : ℕ) (other : RowState) → first ≤ j → 
 
 -- a row out of a move's reach stands far away from it
 out_of_reach : (job : JobFields) (m : Move) (first «end» j : ℕ) → IsRowReach job m.from.y m.to.y first «end» → j < row_count job → (j < first) ⊎ («end» ≤ j)
-    → IsBeyond (margin_of job.cutter) m.from.y m.to.y (column_y job j)
+    → IsBeyond (margin_of (inner_of job).cutter) m.from.y m.to.y (column_y job j)
 out_of_reach job m first «end» j reach there (inl before) = inl (reach.under j before)
 out_of_reach job m first «end» j reach there (inr behind) = inr (reach.over j behind there)
 
 module _ (job : JobFields) (m : Move) (done : List Move) (rows : List RowState) (first «end» n : ℕ) where
   -- where the rows in its reach are passed, so are all
-  pub stock_passed : IsCutter job.cutter → MoveInRange m → IsRowReach job m.from.y m.to.y first «end» → IsStock job done rows → («end» ≤ n) ⊎ (length rows ≤ n) → ArePassed job m rows first n
+  pub stock_passed : IsJob job → MoveInRange m → IsRowReach job m.from.y m.to.y first «end» → IsStock job done rows → («end» ≤ n) ⊎ (length rows ≤ n) → ArePassed job m rows first n
       → m.kind ≡ Feed → ClearsColumns job done m
-  stock_passed size range reach stock over passed feed =
-      subst (λ (k : Kind). IsTested job k → (j i : ℕ) → IsColumn job j i → PassesPoint job.cutter m (tested_point job k done j i)) (sym feed)
+  stock_passed ok range reach stock over passed feed =
+      subst (λ (k : Kind). IsTested job k → (j i : ℕ) → IsColumn job j i → SolidPassesPoint (stock_solid_of job) m (tested_point job k done j i)) (sym feed)
       (λ tested j i column. by j i column (uncut_row job j) tested (cases_lt j first) (cases_lt j n))
     where
-      by : (j i : ℕ) → IsColumn job j i → (other : RowState) → IsTested job Feed → (j < first) ⊎ (first ≤ j) → (j < n) ⊎ (n ≤ j) → PassesPoint job.cutter m (tested_point job Feed done j i)
+      by : (j i : ℕ) → IsColumn job j i → (other : RowState) → IsTested job Feed → (j < first) ⊎ (first ≤ j) → (j < n) ⊎ (n ≤ j) → SolidPassesPoint (stock_solid_of job) m (tested_point job Feed done j i)
       by j i column other tested under below =
-          subst (λ (p : Pt3). PassesPoint job.cutter m p) (point_is job Feed done j i (get_or rows j other) is column.column) (row under below i column.column)
+          subst (λ (p : Pt3). SolidPassesPoint (stock_solid_of job) m p) (point_is job Feed done j i (get_or rows j other) is column.column) (row under below i column.column)
         where
           is : IsRow job done j (get_or rows j other)
           is = stock.rows_ok j other column.row
 
-          far : IsBeyond (margin_of job.cutter) m.from.y m.to.y (column_y job j) → PassesRow job (cutting job Feed m) (get_or rows j other)
-          far beyond = far_passes_row job (cutting job Feed m) (get_or rows j other) (cutter_is_solid job.cutter size) range
-              (subst (λ (k : ℕ). IsBeyond (margin_of job.cutter) m.from.y m.to.y (column_y job k)) (sym is.number) beyond)
+          far : IsBeyond (margin_of (inner_of job).cutter) m.from.y m.to.y (column_y job j) → PassesRow job (cutting job Feed m) (get_or rows j other)
+          far beyond = far_passes_row job (cutting job Feed m) (get_or rows j other) (stock_solid_ok job ok) range
+              (stock_beyond job m.from.y m.to.y (column_y job (get_or rows j other).row) ok (subst (λ (k : ℕ). IsBeyond (margin_of (inner_of job).cutter) m.from.y m.to.y (column_y job k)) (sym is.number) beyond))
 
           behind : n ≤ j → («end» ≤ n) ⊎ (length rows ≤ n) → «end» ≤ j
           behind h (inl l) = omega (arith, h, l)
@@ -77,7 +78,7 @@ pub record IsTooDeep (job : JobFields) (m : Move) (r : RowState) : Type 0 where
   pub i : ℕ
   pub column : i < column_count job
   pub limited : IsTested job Feed
-  pub stops : ¬ PassesPoint job.cutter m (row_point job Feed r i)
+  pub stops : ¬ SolidPassesPoint (stock_solid_of job) m (row_point job Feed r i)
 
 -- a test of a row finds such a column, or none
 pub none_found : (o : Option (ℕ × Leaf)) → is_some o ≡ false → o ≡ None
@@ -92,8 +93,8 @@ too_deep job m r (Some s) e tested first = record { i = s.0; column = first.colu
 pub stock_stops : (job : JobFields) (m : Move) (done : List Move) (rows : List RowState) (j : ℕ) (r : RowState) → IsStock job done rows → j < length rows → r ≡ get_or rows j r → IsTooDeep job m r
     → m.kind ≡ Feed → ¬ ClearsColumns job done m
 stock_stops job m done rows j r stock there read deep feed clears =
-    deep.stops (subst (λ (p : Pt3). PassesPoint job.cutter m p) (sym (point_is job Feed done j deep.i r is deep.column))
-    (subst (λ (k : Kind). IsTested job k → (j i : ℕ) → IsColumn job j i → PassesPoint job.cutter m (tested_point job k done j i)) feed clears deep.limited j deep.i (record { row = in_job; column = deep.column })))
+    deep.stops (subst (λ (p : Pt3). SolidPassesPoint (stock_solid_of job) m p) (sym (point_is job Feed done j deep.i r is deep.column))
+    (subst (λ (k : Kind). IsTested job k → (j i : ℕ) → IsColumn job j i → SolidPassesPoint (stock_solid_of job) m (tested_point job k done j i)) feed clears deep.limited j deep.i (record { row = in_job; column = deep.column })))
   where
     in_job : j < row_count job
     in_job = subst (λ (n : ℕ). j < n) stock.count there
@@ -145,8 +146,8 @@ cut_are_rows job m first n old new cut rows = λ j other within. by j other (sub
 
 module _ (job : JobFields) (m : Move) (first «end» n : ℕ) (old new : List RowState) (over : («end» ≤ n) ⊎ (length old ≤ n)) (cut : AreCutTo job m first n old new) where
   -- once the rows in the move's reach are cut, the stock is as after one move more
-  pub stock_cut : IsCutter job.cutter → IsRowReach job m.from.y m.to.y first «end» → (done : List Move) → IsStock job done old → IsStock job (done ++ m ∷ []) new
-  stock_cut size reach done stock = record {
+  pub stock_cut : IsJob job → IsRowReach job m.from.y m.to.y first «end» → (done : List Move) → IsStock job done old → IsStock job (done ++ m ∷ []) new
+  stock_cut ok reach done stock = record {
     count = cut.count ∙ stock.count;
     rows_ok = λ j other there. row j other there (cases_lt j first) (cases_lt j n);
   }
@@ -160,7 +161,7 @@ module _ (job : JobFields) (m : Move) (first «end» n : ℕ) (old new : List Ro
           subst (IsRow job (done ++ m ∷ []) j) (sym same) (record {
             number = is.number;
             after = is.after
-                ∙ move_keeps job j m (row_after job j done) size (past_margin job.cutter m.from.y m.to.y (column_y job j) (out_of_reach job m first «end» j reach there out))
+                ∙ move_keeps job j m (row_after job j done) (inner_ok job ok).cutter_ok (past_margin (inner_of job).cutter m.from.y m.to.y (column_y job j) (out_of_reach job m first «end» j reach there out))
                 ∙ sym (more j);
           })
 

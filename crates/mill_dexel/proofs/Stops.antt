@@ -4,6 +4,7 @@ use Rattle.std.specs.Prelude.{Option, Some, None, IfSome, MatchOption}
 use Rattle.mill_base.specs.Solids.{Solid}
 use Rattle.mill_base.specs.declared.motion.Move.{Move}
 use Rattle.mill_base.specs.declared.motion.Kind.{Kind}
+use Rattle.mill_job.specs.Solids.{holder_solid_of}
 use Rattle.mill_job.specs.declared.fields.JobFields.{JobFields}
 use Rattle.mill_sweep.specs.declared.leaf.Leaf.{Leaf}
 use Rattle.mill_dexel.specs.Tops.{IsTested}
@@ -40,7 +41,7 @@ module _ (job : JobFields) (r : RowState) (m : Move) (kind : Kind) (is : m.kind 
       found (Some s) none tested first blocked = (tested, first, blocked)
 
 -- what a job's holder finds
-pub held_found : (job : JobFields) (r : RowState) (m : Move) (holder : Solid) (o : Option (ℕ × Leaf)) → job.holder ≡ Some holder
+pub held_found : (job : JobFields) (r : RowState) (m : Move) (holder : Solid) (o : Option (ℕ × Leaf)) → holder_solid_of job ≡ Some holder
     → MatchOption o (HolderPassesRow holder job r m) (λ s. IsFirstStop job (holding holder m) r s.0 s.1) → IfSome o (λ s. IsColumnBlocked job (holding holder m) r s.0 s.1)
     → MatchOption o (HolderClearsRow job r m) (λ s. IsFirstHolderStop job r m s.0 s.1)
 held_found job r m holder None there passes none = subst (λ (h : Option Solid). IfSome h (λ holder. HolderPassesRow holder job r m)) (sym there) passes

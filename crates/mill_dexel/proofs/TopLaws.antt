@@ -5,6 +5,7 @@ use Rattle.std.proofs.lemmas.Int.{ints}
 use Rattle.mill_base.specs.Numbers.{lesser, greater}
 use Rattle.mill_base.specs.Sizes.{cut_height_of}
 use Rattle.mill_base.specs.declared.motion.Move.{Move}
+use Rattle.mill_job.specs.Solids.{inner_of}
 use Rattle.mill_job.specs.declared.fields.JobFields.{JobFields}
 use Rattle.mill_job.specs.Jobs.{IsFrom}
 use Rattle.mill_dexel.specs.Samples.{samples}
@@ -12,7 +13,7 @@ use Rattle.mill_dexel.specs.declared.sample.Placed.{Placed}
 use Rattle.mill_job.specs.Columns.{column_x, column_y}
 use Rattle.mill_dexel.specs.Stocks.{IsStockOf}
 use Rattle.mill_dexel.specs.Tops.{Stock, lowered_to, stock_after, top_after_sample, top_after_move, top_after, uncut}
-use Rattle.mill_dexel.proofs.Heights.{greater_left, greater_right, greater_least, lesser_left, lesser_under}
+use Rattle.mill_base.proofs.Extremes.{greater_left, greater_right, greater_least, lesser_left, lesser_under}
 
 -- a lowered top stays from floor to high
 pub lowered_stays : (floor high top : ℤ) (cut : Option ℤ) → IsFrom floor high top → IsFrom floor high (lowered_to floor top cut)
@@ -36,7 +37,7 @@ samples_stay floor high x y top (s ∷ places) stays =
     samples_stay floor high x y (top_after_sample floor x y top s) places (sample_stays floor high x y top s stays)
 
 pub move_stays : (job : JobFields) (x y top : ℤ) (m : Move) → IsFrom job.floor job.top top → IsFrom job.floor job.top (top_after_move job x y top m)
-move_stays job x y top m stays = samples_stay job.floor job.top x y top (samples job.cutter job.sample m) stays
+move_stays job x y top m stays = samples_stay job.floor job.top x y top (samples (inner_of job) job.sample m) stays
 
 pub moves_stay : (job : JobFields) (x y top : ℤ) (moves : List Move) → IsFrom job.floor job.top top → IsFrom job.floor job.top (fold (top_after_move job x y) top moves)
 moves_stay job x y top [] stays = stays

@@ -14,19 +14,21 @@ use Rattle.mill_base.proofs.Machine.{Read, Diff, stored, exact, kept}
 use Rattle.mill_base.proofs.Ranges.{within_of_unit}
 use Rattle.mill_base.specs.Points.{point_at}
 use Rattle.mill_base.specs.Ranges.{IsInRange, MoveInRange, TriInRange}
-use Rattle.mill_base.specs.Solids.{IsSolid}
+use Rattle.mill_base.specs.Solids.{IsSolid, lifted}
 use Rattle.mill_base.specs.Units.{greatest_of}
 use Rattle.mill_base.specs.declared.motion.Move.{Move}
 use Rattle.mill_base.specs.declared.motion.Kind.{Kind}
 use Rattle.mill_base.specs.declared.motion.Kind.TheVariants.{Rapid, Feed}
 use Rattle.mill_base.specs.declared.unit.Unit.{Unit}
+use Rattle.mill_job.specs.Solids.{stock_solid_of}
+use Rattle.mill_sweep.specs.Solids.{SolidPasses}
 use Rattle.mill_job.specs.declared.fields.JobFields.{JobFields}
 use Rattle.mill_job.specs.Columns.{row_count, column_count, column_x, column_y}
 use Rattle.mill_job.specs.Jobs.{IsJob, IsFrom}
 use Rattle.mill_sweep.specs.Halving.{Passes}
 use Rattle.mill_dexel.specs.Rows.{RowState, IsRowOf, Test, cutting, PassesRow, top_at, row_point, uncut_tri}
 use Rattle.mill_dexel.specs.Tops.{cut_limit, tested_height}
-use Rattle.mill_dexel.proofs.Heights.{greater_left, greater_right, greater_least, most_is}
+use Rattle.mill_base.proofs.Extremes.{greater_left, greater_right, greater_least, most_is}
 use Rattle.mill_dexel.proofs.Lines.{line_passes}
 use Rattle.mill_dexel.proofs.Trials.{low_passes}
 
@@ -145,9 +147,9 @@ uncut_in_range job j is_job there = record { a_ok = west; b_ok = east; c_ok = ea
     east = record { x_ok = within_of_unit job.unit job.area.x1 is_job.x1_ok; y_ok = y_in; z_ok = height_in }
 
 -- a row is at most as high as the uncut row, and its columns stand within the stock
-pub uncut_passes : (job : JobFields) (r : RowState) (m : Move) → IsJob job → IsRowOf job r → Passes job.cutter m (uncut_tri job r.row) → PassesRow job (cutting job Rapid m) r
+pub uncut_passes : (job : JobFields) (r : RowState) (m : Move) → IsJob job → IsRowOf job r → SolidPasses (stock_solid_of job) m (uncut_tri job r.row) → PassesRow job (cutting job Rapid m) r
 uncut_passes job r m is_job is_row passes i there =
-    line_passes job.cutter m job.area.x0 job.area.x1 (column_y job r.row) job.top (column_x job i) (top_at r.tops i)
+    line_passes (stock_solid_of job).cutter (lifted (stock_solid_of job) m) job.area.x0 job.area.x1 (column_y job r.row) job.top (column_x job i) (top_at r.tops i)
     (steps_within i job.area.x0 job.area.x1 job.pitch is_job.x_order is_job.pitch_ok.low there)
     (top_stays job r i is_row there).high
     passes

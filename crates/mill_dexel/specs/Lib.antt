@@ -5,4 +5,5 @@ pub mod Turns
 pub mod Bands
 pub mod Stocks
 pub mod Samples
+pub mod Removed
 pub mod inner

@@ -1,7 +1,7 @@
 -- A row of columns, and the first of its columns that the cutter, or its holder, doesn't pass on a move.
 use Rattle.std.specs.Prelude.{◌≡◌, ℕ, ◌<◌, ℤ, pos, List, length, All, Option, None, Some, IfSome, slice_index_or}
 use Rattle.mill_base.specs.Points.{point_at, point_tri}
-use Rattle.mill_base.specs.Solids.{Solid, at_tip}
+use Rattle.mill_base.specs.Solids.{Solid}
 use Rattle.mill_base.specs.declared.points.Pt3.{Pt3}
 use Rattle.mill_base.specs.declared.points.Tri.{Tri}
 use Rattle.mill_base.specs.declared.motion.Move.{Move}
@@ -10,6 +10,7 @@ use Rattle.mill_base.specs.declared.motion.Kind.TheVariants.{Rapid}
 use Rattle.mill_job.specs.declared.fields.JobFields.{JobFields}
 use Rattle.mill_job.specs.Columns.{row_count, column_count, column_x, column_y}
 use Rattle.mill_job.specs.Jobs.{IsFrom}
+use Rattle.mill_job.specs.Solids.{holder_solid_of, stock_solid_of}
 use Rattle.mill_sweep.specs.Solids.{SolidFailsAt, SolidIsBlocked, SolidPassesPoint}
 use Rattle.mill_sweep.specs.declared.leaf.Leaf.{Leaf}
 use Rattle.mill_dexel.specs.Tops.{Stock, row_tops, tested_height, uncut}
@@ -66,7 +67,7 @@ pub record Test : Type 0 where
 
 -- the cutter's test, as a move of this kind is tested
 abbrev pub cutting : JobFields → Kind → Move → Test
-cutting job kind m = record { solid = at_tip job.cutter; move = m; kind = kind }
+cutting job kind m = record { solid = stock_solid_of job; move = m; kind = kind }
 
 -- the holder's test of a move of the cutter under it, at the columns' tops
 abbrev pub holding : Solid → Move → Test
@@ -96,11 +97,11 @@ HolderPassesRow holder job r m = PassesRow job (holding holder m) r
 
 -- so does the job's, if it has one
 abbrev pub HolderClearsRow : JobFields → RowState → Move → Type 0
-HolderClearsRow job r m = IfSome job.holder (λ holder. HolderPassesRow holder job r m)
+HolderClearsRow job r m = IfSome (holder_solid_of job) (λ holder. HolderPassesRow holder job r m)
 
 -- the job has a holder, and column i is the first whose top it doesn't pass, and the column's top blocks this segment
 pub record IsFirstHolderStop (job : JobFields) (r : RowState) (m : Move) (i : ℕ) (leaf : Leaf) : Type 0 where
   pub holder : Solid
-  pub there : job.holder ≡ Some holder
+  pub there : holder_solid_of job ≡ Some holder
   pub column : IsFirstStop job (holding holder m) r i leaf
   pub blocked : IsColumnBlocked job (holding holder m) r i leaf

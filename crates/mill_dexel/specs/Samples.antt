@@ -1,13 +1,15 @@
--- The samples of a move: cutters at whole places, of which each has surely cut what it holds there.
+-- The samples of a solid on a move: cutters at whole places, of which each has surely cut what it holds there.
 use Rattle.std.specs.Prelude.{◌≡◌, ℕ, ◌+◌, ◌*◌, ◌^◌, nat_le, nat_abs, Bool, ◌&&◌, if◌then◌else◌, ℤ, pos, neg_ℤ, ◌+ℤ◌, ◌≤ℤ◌, List, map, Option, Some, None, MatchOption}
 use Rattle.std.specs.List.{range_with_len}
 use Rattle.mill_base.specs.Numbers.{round_half_up, ceil_div, divides, least_from, Within}
 use Rattle.mill_base.specs.Points.{point_at}
 use Rattle.mill_base.specs.Sizes.{IsCutter, inner, shift}
+use Rattle.mill_base.specs.Solids.{Solid, raised}
 use Rattle.mill_base.specs.declared.limits.TheConstants.{MAX_COORDINATE}
 use Rattle.mill_base.specs.declared.points.Pt3.{Pt3}
 use Rattle.mill_base.specs.declared.motion.Move.{Move}
 use Rattle.mill_base.specs.declared.cutter.Cutter.{Cutter}
+use Rattle.mill_shape.specs.declared.height.TheConstants.{HIGHEST_TIP}
 use Rattle.mill_sweep.specs.Leaves.{length_x, length_y, end_of}
 use Rattle.mill_dexel.specs.declared.sample.Placed.{Placed}
 
@@ -45,17 +47,34 @@ sample_at cutter m d k =
     if is_at_whole_place m d k then Some (placed cutter (sample_centre m d k))
     else raised_over (sample_centre m d k) (shift cutter (pos 1)) (inner cutter)
 
--- the samples of a move, at k/2^d for each k from 0 to 2^d
-abbrev pub samples : Cutter → ℤ → Move → List (Option Placed)
-samples cutter sample m = map (sample_at cutter m (split_of sample m)) (range_with_len 0 (2 ^ split_of sample m + 1))
+-- a sample, if there is one, with its tip so much higher
+abbrev pub raised_sample : ℤ → Option Placed → Option Placed
+raised_sample lift None = None
+raised_sample lift (Some s) = Some (placed s.cutter (raised lift (pos 1) s.tip))
 
--- a sample of a job's moves: its cutter has a job's size, and its tip is in range but for a rise of up to 16
+-- the sample of a solid at k/2^d: that of its cutter, as much higher as its lift is
+abbrev pub solid_sample_at : Solid → Move → ℕ → ℕ → Option Placed
+solid_sample_at solid m d k = raised_sample solid.lift (sample_at solid.cutter m d k)
+
+-- the samples of a solid on a move, at k/2^d for each k from 0 to 2^d
+abbrev pub samples : Solid → ℤ → Move → List (Option Placed)
+samples solid sample m = map (solid_sample_at solid m (split_of sample m)) (range_with_len 0 (2 ^ split_of sample m + 1))
+
+-- a sample of a job's moves, before it is raised by a lift: its cutter has a job's size, and its tip is in range but for a rise of up to 16
 pub record IsSample (s : Placed) : Type 0 where
   pub cutter_ok : IsCutter s.cutter
   pub x_ok : Within MAX_COORDINATE s.tip.x
   pub y_ok : Within MAX_COORDINATE s.tip.y
   pub z_least : neg_ℤ (pos MAX_COORDINATE) ≤ℤ s.tip.z
   pub z_most : s.tip.z ≤ℤ pos (MAX_COORDINATE + 16)
+
+-- so it is of one that is raised
+pub record IsRaisedSample (s : Placed) : Type 0 where
+  pub cutter_ok : IsCutter s.cutter
+  pub x_ok : Within MAX_COORDINATE s.tip.x
+  pub y_ok : Within MAX_COORDINATE s.tip.y
+  pub z_least : neg_ℤ (pos MAX_COORDINATE) ≤ℤ s.tip.z
+  pub z_most : s.tip.z ≤ℤ HIGHEST_TIP
 
 -- the cutter narrowed by 1, with how far it is raised, none at radius 1
 abbrev pub IsNarrowed : Cutter → Option (Cutter × ℤ) → Type 0

@@ -10,7 +10,7 @@ use Rattle.mill_base.specs.declared.motion.Kind.{Kind}
 use Rattle.mill_base.specs.declared.motion.Kind.TheVariants.{Rapid, Feed}
 use Rattle.mill_job.specs.declared.fields.JobFields.{JobFields}
 use Rattle.mill_job.specs.Columns.{IsColumn, column_x, column_y, column_count}
-use Rattle.mill_sweep.specs.Halving.{PassesPoint}
+use Rattle.mill_job.specs.Solids.{holder_solid_of, inner_of, stock_solid_of}
 use Rattle.mill_sweep.specs.Solids.{SolidPassesPoint}
 use Rattle.mill_dexel.specs.Samples.{samples}
 use Rattle.mill_dexel.specs.declared.sample.Placed.{Placed}
@@ -25,9 +25,9 @@ abbrev pub top_after_sample : ℤ → ℤ → ℤ → ℤ → Option Placed → 
 top_after_sample floor x y top None = top
 top_after_sample floor x y top (Some s) = lowered_to floor top (cut_height_of s.cutter s.tip x y)
 
--- a column's top after one move
+-- a column's top after one move, lowered by what the cutter removes for sure
 abbrev pub top_after_move : JobFields → ℤ → ℤ → ℤ → Move → ℤ
-top_after_move job x y top m = fold (top_after_sample job.floor x y) top (samples job.cutter job.sample m)
+top_after_move job x y top m = fold (top_after_sample job.floor x y) top (samples (inner_of job) job.sample m)
 
 -- a column's top after a list of moves, from this top on
 abbrev pub top_on : JobFields → ℤ → ℤ → ℤ → List Move → ℤ
@@ -84,7 +84,7 @@ tested_point_on job kind stock j i = point_at (column_x job i) (column_y job j) 
 
 -- a move passes each column of a stock, if it is tested
 abbrev pub ClearsColumnsOn : JobFields → Stock → Move → Type 0
-ClearsColumnsOn job stock m = IsTested job m.kind → (j i : ℕ) → IsColumn job j i → PassesPoint job.cutter m (tested_point_on job m.kind stock j i)
+ClearsColumnsOn job stock m = IsTested job m.kind → (j i : ℕ) → IsColumn job j i → SolidPassesPoint (stock_solid_of job) m (tested_point_on job m.kind stock j i)
 
 -- the point at the top of column i of row j of a stock
 abbrev pub top_point_on : JobFields → Stock → ℕ → ℕ → Pt3
@@ -92,7 +92,7 @@ top_point_on job stock j i = point_at (column_x job i) (column_y job j) (stock j
 
 -- the holder, if the job has one, passes each column of a stock on a move, up to its top
 abbrev pub HolderClearsColumnsOn : JobFields → Stock → Move → Type 0
-HolderClearsColumnsOn job stock m = IfSome job.holder (λ holder. (j i : ℕ) → IsColumn job j i → SolidPassesPoint holder m (top_point_on job stock j i))
+HolderClearsColumnsOn job stock m = IfSome (holder_solid_of job) (λ holder. (j i : ℕ) → IsColumn job j i → SolidPassesPoint holder m (top_point_on job stock j i))
 
 -- ---- a further move after a list of moves, from the uncut stock on
 

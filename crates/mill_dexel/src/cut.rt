@@ -6,7 +6,7 @@ ghost use Rattle.mill_base.specs.Points.{point_at};
 ghost use Rattle.mill_base.specs.Ranges.{MoveInRange};
 ghost use Rattle.mill_job.specs.Columns.{row_count, column_count, column_x, column_y};
 ghost use Rattle.mill_job.specs.Jobs.{IsJob};
-ghost use Rattle.mill_dexel.specs.Samples.{IsSample};
+ghost use Rattle.mill_dexel.specs.Samples.{IsRaisedSample, IsSample, raised_sample};
 ghost use Rattle.mill_dexel.specs.Tops.{top_after_sample, tops_after_move};
 ghost use Rattle.mill_dexel.specs.Rows.{top_at};
 ghost use Rattle.mill_dexel.specs.inner.Cuts.{IsCutAt, IsCutBy};
@@ -18,8 +18,8 @@ use mill_base::{Move, Pt3, offset, power_of_two};
 use mill_job::Job;
 use mill_shape::{cut_height, inside, shrink};
 
-/// Lowers the tops of a row to what the cutter leaves after the move: at each of its samples in
-/// turn, none where the whole move is too far away from the row.
+/// Lowers the tops of a row to what is left after the move for sure: at each sample of the job's
+/// inner solid in turn, none where the whole move is too far away from the row.
 ///
 /// `last` is a point at which the row is cut already, if one is known. Most moves start where the
 /// one before them ended, and then the first sample would change nothing.
@@ -30,23 +30,16 @@ pub(crate) fn cut_move(tops: &mut [i32], job: &Job, number: u32, step: &Move, la
     requires last { IfSome last (λ tip. IsCutAt job.now.fields number tip tops.old) }
     ensures { tops.new ≡ tops_after_move job.now.fields number 0 step.now tops.old }
 {
-    if is_beyond(
-        job.row_y(number),
-        job.fields.cutter.radius(),
-        step.from.y,
-        step.to.y,
-    ) {
+    let cutter = job.inner().cutter();
+    let lift = job.inner().lift();
+    if is_beyond(job.row_y(number), cutter.radius(), step.from.y, step.to.y) {
         return;
     }
-    let narrowed = shrink(job.fields.cutter);
+    let narrowed = shrink(cutter);
     let d = halvings(step, job.fields.sample.unsigned_abs());
     for k in first_sample(step, last)..power_of_two(d) + 1 {
-        cut_sample(
-            tops,
-            job,
-            number,
-            sample_at(job.fields.cutter, narrowed, step, d, k),
-        );
+        let sample = sample_at(cutter, narrowed, step, d, k);
+        cut_sample(tops, job, number, raised(sample, lift));
     }
 }
 
@@ -58,11 +51,24 @@ fn first_sample(step: &Move, last: Option<Pt3>) -> u64
     if last == Some(step.from) { 1 } else { 0 }
 }
 
+/// The sample, if there is one, with its tip higher by a solid's lift.
+fn raised(sample: Option<Placed>, lift: i32) -> Option<Placed>
+    requires sample_ok { IfSome sample IsSample }
+    requires lift_least { pos 0 ≤ℤ lift }
+    requires lift_most { lift ≤ℤ pos 3400 }
+    ensures value { result ≡ raised_sample lift sample }
+    ensures sample { IfSome result IsRaisedSample }
+{
+    let mut sample = sample?;
+    sample.tip.z += lift;
+    Some(sample)
+}
+
 /// Lowers the tops of a row to where the sample's cutter cuts, if there is one.
 fn cut_sample(tops: &mut [i32], job: &Job, number: u32, sample: Option<Placed>)
     requires row { number < row_count job.now.fields }
     requires columns { length tops.old ≡ column_count job.now.fields }
-    requires sample_ok { IfSome sample IsSample }
+    requires sample_ok { IfSome sample IsRaisedSample }
     ensures { IsCutBy job.now.fields number sample tops.old tops.new }
 {
     if let Some(sample) = sample {
@@ -75,7 +81,7 @@ fn cut_sample(tops: &mut [i32], job: &Job, number: u32, sample: Option<Placed>)
 fn cut_row(tops: &mut [i32], job: &Job, number: u32, sample: Placed)
     requires row { number < row_count job.now.fields }
     requires columns { length tops.old ≡ column_count job.now.fields }
-    requires sample_ok { IsSample sample }
+    requires sample_ok { IsRaisedSample sample }
     ensures { IsCutBy job.now.fields number (Some sample) tops.old tops.new }
 {
     let tip = sample.tip;
@@ -93,7 +99,7 @@ fn cut_column(tops: &mut [i32], job: &Job, number: u32, column: u32, sample: Pla
     requires row { number < row_count job.now.fields }
     requires columns { length tops.old ≡ column_count job.now.fields }
     requires column { column < column_count job.now.fields }
-    requires sample_ok { IsSample sample }
+    requires sample_ok { IsRaisedSample sample }
     ensures { tops.new ≡ slice_set tops.old column (top_after_sample job.now.fields.floor (column_x job.now.fields column) (column_y job.now.fields number) (top_at tops.old column) (Some sample)) }
 {
     let before = tops[column as usize];
@@ -125,7 +131,7 @@ fn is_free(top: i32, floor: i32, tip: i32) -> bool
 /// Whether the top of the column at (x, y) is at the floor or over it and not strictly inside the
 /// sample's cutter, so that the cutter can't lower it. This takes no root, as a cut's height does.
 fn is_clear(sample: Placed, floor: i32, x: i32, y: i32, top: i32) -> bool
-    requires sample_ok { IsSample sample }
+    requires sample_ok { IsRaisedSample sample }
     requires x_ok { Within MAX_COORDINATE x }
     requires y_ok { Within MAX_COORDINATE y }
     ensures low { IsTrue result → floor ≤ℤ top }
@@ -140,7 +146,7 @@ fn is_clear(sample: Placed, floor: i32, x: i32, y: i32, top: i32) -> bool
 
 /// Whether the whole point (x, y, z) is strictly inside the sample's cutter.
 fn holds(sample: Placed, x: i32, y: i32, z: i32) -> bool
-    requires sample_ok { IsSample sample }
+    requires sample_ok { IsRaisedSample sample }
     ensures { IsTrue result ↔ Holds sample.cutter (pos 1) sample.tip (pos 1) (point_at x y z) }
 {
     let tip = sample.tip;

@@ -47,9 +47,9 @@ pub(crate) fn reach_by(job: &Job, distance: i32, from: i32, to: i32) -> Reach
     reach_along(columns, distance, from, to)
 }
 
-/// The rows that stand nearer than the cutter's radius and the greatest last reach to the interval between
-/// two points in y. A move between these points passes the columns of each other row, and leaves them
-/// uncut.
+/// The rows that stand nearer than the radius of the job's inner solid and the greatest last reach
+/// to the interval between two points in y. A move between these points passes the columns of each
+/// other row, and leaves them uncut.
 pub(crate) fn row_reach(job: &Job, from: Pt3, to: Pt3) -> Reach
     ensures { IsRowReach job.now.fields from.y to.y result.first result.end }
 {
@@ -58,7 +58,7 @@ pub(crate) fn row_reach(job: &Job, from: Pt3, to: Pt3) -> Reach
         pitch: job.fields.pitch,
         count: job.rows(),
     };
-    reach_along(rows, passing_distance(job.fields.cutter), from.y, to.y)
+    reach_along(rows, passing_distance(job.inner().cutter()), from.y, to.y)
 }
 
 /// The places that are nearer than `distance` to the interval between two others.
@@ -129,8 +129,9 @@ pub(crate) fn is_beyond(y: i32, distance: i32, from: i32, to: i32) -> bool
     y > high_end(distance, from, to)
 }
 
-/// Whether a row at `y` stands so far away from the interval between two places in y that a cutter, or a
-/// holder's shape, passes the row on a move within it. The job's cutter leaves it uncut then too.
+/// Whether a row at `y` stands so far away from the interval between two places in y that a cutter,
+/// or a holder's shape, passes the row on a move within it. A solid of that cutter leaves it uncut
+/// then too.
 pub(crate) fn is_apart(cutter: Cutter, y: i32, from: i32, to: i32) -> bool
     requires { IsCutter cutter }
     ensures { IsTrue result → IsBeyond (margin_of cutter) from to y }
@@ -143,8 +144,8 @@ pub(crate) fn is_apart(cutter: Cutter, y: i32, from: i32, to: i32) -> bool
 pub(crate) fn is_away(job: &Job, y: i32, from: i32, to: i32) -> bool
     ensures { IsTrue result → IsAway job.now.fields from to y }
 {
-    match job.fields.holder {
-        None => is_apart(job.fields.cutter, y, from, to),
+    match job.holder_solid() {
+        None => is_apart(job.inner().cutter(), y, from, to),
         Some(holder) => is_apart(holder.cutter(), y, from, to),
     }
 }

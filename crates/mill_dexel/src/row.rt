@@ -103,7 +103,7 @@ impl Row {
         if self.is_passed_uncut(job, step) {
             return None;
         }
-        self.first_stop(job, Solid::at_tip(job.fields.cutter), Kind::Rapid, step)
+        self.first_stop(job, job.stock_solid(), Kind::Rapid, step)
     }
 
     /// The first column in which the move, as a feed, would cut too deep, with the segment of the move at
@@ -122,7 +122,7 @@ impl Row {
         if job.fields.max_cut == 0 {
             return None;
         }
-        self.first_stop(job, Solid::at_tip(job.fields.cutter), Kind::Feed, step)
+        self.first_stop(job, job.stock_solid(), Kind::Feed, step)
     }
 
     /// The first column whose top the job's holder doesn't pass at every moment of the move, with the segment
@@ -134,13 +134,13 @@ impl Row {
         requires step { MoveInRange step.now }
         ensures { MatchOption result (HolderClearsRow job.now.fields self.now step.now) (λ s. IsFirstHolderStop job.now.fields self.now step.now s.0 s.1) }
     {
-        match job.fields.holder {
+        match job.holder_solid() {
             None => None,
             Some(holder) => self.first_stop(job, holder, Kind::Rapid, step),
         }
     }
 
-    /// Lowers the tops to what the cutter leaves after the move.
+    /// Lowers the tops to what is left after the move for sure.
     pub fn cut_turn(&mut self, job: &Job, step: &Move)
         requires row { IsRowOf job.now.fields self.old }
         requires step { MoveInRange step.now }
@@ -280,8 +280,8 @@ impl Row {
         true
     }
 
-    /// Lowers the tops to what the cutter leaves after the move, where they are known to be cut at the
-    /// point `last`, if one is given.
+    /// Lowers the tops to what is left after the move for sure, where they are known to be cut at
+    /// the point `last`, if one is given.
     fn cut_after(&mut self, job: &Job, step: &Move, last: Option<Pt3>)
         requires row { IsRowOf job.now.fields self.old }
         requires step { MoveInRange step.now }
@@ -412,15 +412,16 @@ impl Row {
         requires step { MoveInRange step.now }
         ensures { IsTrue result → PassesRow job.now.fields (cutting job.now.fields Rapid step.now) self.now }
     {
-        let cutter = job.fields.cutter;
-        if is_apart(cutter, job.row_y(self.number), step.from.y, step.to.y) {
+        let solid = job.stock_solid();
+        if is_apart(
+            solid.cutter(),
+            job.row_y(self.number),
+            step.from.y,
+            step.to.y,
+        ) {
             return true;
         }
-        passes_tri(
-            Solid::at_tip(cutter),
-            step,
-            &uncut_triangle(job, self.number),
-        )
+        passes_tri(solid, step, &uncut_triangle(job, self.number))
     }
 
     /// The point of a column at which a move of this kind is tested.

@@ -3,7 +3,6 @@ use Rattle.std.proofs.Common.{◌≡◌, ℕ, List, refl}
 use Rattle.std.specs.Prelude.{ℤ, Option, IfSome}
 use Rattle.mill_base.specs.Points.{tri_at}
 use Rattle.mill_base.specs.Ranges.{MoveInRange}
-use Rattle.mill_base.specs.Solids.{at_tip}
 use Rattle.mill_base.specs.declared.motion.Move.{Move}
 use Rattle.mill_base.specs.declared.points.Tri.{Tri}
 use Rattle.mill_document.specs.Details.{column_numbers, column_of, failure_of, leaf_of, segment_of, test_of, triangle_of}
@@ -16,6 +15,7 @@ use Rattle.mill_document.specs.inner.Leaves.{IsLeaf}
 use Rattle.mill_document.proofs.LeafLemmas.{failing_leaf}
 use Rattle.mill_dexel.specs.Turns.{move_at}
 use Rattle.mill_job.specs.Columns.{IsColumn}
+use Rattle.mill_job.specs.Solids.{part_solid_of, stock_solid_of}
 use Rattle.mill_job.specs.declared.fields.JobFields.{JobFields}
 use Rattle.mill_report.specs.Findings.{IsFinding, move_of}
 use Rattle.mill_verify.specs.declared.verdict.Reason.{Reason}
@@ -32,10 +32,10 @@ names_column job part moves (Left j i top) f = tt
 
 pub names_leaf : (job : JobFields) (part : List Tri) (moves : List Move) (reason : Reason) → MoveInRange (move_at moves (move_of reason)) → IsFinding job part moves reason → IfSome (leaf_of reason) IsLeaf
 names_leaf job part moves (Floor k) range f = tt
-names_leaf job part moves (Gouge k t leaf) range f = failing_leaf (at_tip job.cutter) (move_at moves k) (tri_at part t) leaf range f.fails.rejects.fails
+names_leaf job part moves (Gouge k t leaf) range f = failing_leaf (part_solid_of job) (move_at moves k) (tri_at part t) leaf range f.fails.rejects.fails
 names_leaf job part moves (Holder k t leaf) range f = failing_leaf f.fails.rejects.holder (move_at moves k) (tri_at part t) leaf range f.fails.rejects.fails
-names_leaf job part moves (Rapid k j i leaf) range f = failing_leaf (at_tip job.cutter) (move_at moves k) _ leaf range f.fails.rejects.fails
-names_leaf job part moves (Cut k j i leaf) range f = failing_leaf (at_tip job.cutter) (move_at moves k) _ leaf range f.fails.rejects.fails
+names_leaf job part moves (Rapid k j i leaf) range f = failing_leaf (stock_solid_of job) (move_at moves k) _ leaf range f.fails.rejects.fails
+names_leaf job part moves (Cut k j i leaf) range f = failing_leaf (stock_solid_of job) (move_at moves k) _ leaf range f.fails.rejects.fails
 names_leaf job part moves (HolderStock k j i leaf) range f = failing_leaf f.fails.rejects.holder (move_at moves k) _ leaf range f.fails.rejects.fails
 names_leaf job part moves (Left j i top) range f = tt
 

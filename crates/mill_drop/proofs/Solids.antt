@@ -1,7 +1,7 @@
 -- The drop height of a tool, from those of its solids.
-use Rattle.std.proofs.Common.{◌≡◌, ◌⊎◌, inl, inr, refl, Bool, true, false, ap, sym, subst, arith}
+use Rattle.std.proofs.Common.{◌≡◌, ◌⊎◌, inl, inr, refl, Bool, true, false, ap, sym, subst, FitsSigned, w32, arith}
 use Rattle.std.specs.Prelude.{int_lt, List, Some, None, MatchOption}
-use Rattle.std.proofs.lemmas.Int.{ints}
+use Rattle.std.proofs.lemmas.Int.{ints, to_z-of_z}
 use lib.IntN.{ℤ, pos, ◌+ℤ◌, ◌-ℤ◌}
 use lib.Signed.{◌<ℤ◌, ◌≤ℤ◌}
 use Rattle.mill_base.specs.Points.{point_at}
@@ -11,9 +11,11 @@ use Rattle.mill_base.specs.declared.limits.TheConstants.{MAX_COORDINATE}
 use Rattle.mill_base.specs.declared.points.Pt3.{Pt3}
 use Rattle.mill_base.specs.declared.points.Tri.{Tri}
 use Rattle.mill_base.specs.declared.tool.Tool.{Tool}
+use Rattle.mill_base.proofs.Machine.{stored}
 use Rattle.mill_base.proofs.SolidLemmas.{higher_once}
 use Rattle.mill_drop.specs.Drops.{GougesAt, IsDropHeight, IsHeightFrom, IsToolHeight, IsUnderTop}
 use Rattle.mill_drop.specs.inner.Solids.{CutterGougesAt, SolidGougesAt, IsSolidDrop}
+use Rattle.mill_drop.proofs.Stored.{tool_stored}
 
 -- the solid's tip is over the tool's by its lift
 tip_over : (solid : Solid) (x y z : ℤ) → solid_tip solid (pos 1) (point_at x y z) ≡ point_at x y (z +ℤ solid.lift)
@@ -52,7 +54,7 @@ solid_drop_is solid part x y from start tip z begins kept over least drop = reco
     before s l t z a e = omega (arith, ints)
 
 -- without a holder, the cutter's drop height is the tool's
-pub bare_drop_is : (tool : Tool) (part : List Tri) (x y floor z : ℤ) → tool.holder ≡ None → IsSolidDrop tool.cutter part x y floor z → IsDropHeight tool part x y floor z
+bare_drop_is : (tool : Tool) (part : List Tri) (x y floor z : ℤ) → tool.holder ≡ None → IsSolidDrop tool.cutter part x y floor z → IsDropHeight tool part x y floor z
 bare_drop_is tool part x y floor z none drop = record {
   kept = drop.kept;
   free = λ higher up g. elim g [
@@ -63,7 +65,7 @@ bare_drop_is tool part x y floor z none drop = record {
 }
 
 -- with one, it is the holder's from the cutter's on
-pub held_drop_is : (tool : Tool) (holder : Solid) (part : List Tri) (x y floor height z : ℤ) → tool.holder ≡ Some holder → IsSolidDrop tool.cutter part x y floor height
+held_drop_is : (tool : Tool) (holder : Solid) (part : List Tri) (x y floor height z : ℤ) → tool.holder ≡ Some holder → IsSolidDrop tool.cutter part x y floor height
     → IsSolidDrop holder part x y height z → IsDropHeight tool part x y floor z
 held_drop_is tool holder part x y floor height z some cutter drop = record {
   kept = through floor height z cutter.kept drop.kept;
@@ -99,7 +101,7 @@ under_top solid from tip z most least = elim least [
     under s t z h e = omega (e, arith, ints)
 
 -- so the tool is raised no further than its solids raise it
-pub bare_height : (tool : Tool) (floor z : ℤ) → IsToolHeight z → (z ≡ floor) ⊎ IsUnderTop tool.cutter z → IsHeightFrom tool floor z
+bare_height : (tool : Tool) (floor z : ℤ) → IsToolHeight z → (z ≡ floor) ⊎ IsUnderTop tool.cutter z → IsHeightFrom tool floor z
 bare_height tool floor z in_range reached = record {
   in_range = in_range;
   reached = elim reached [
@@ -108,7 +110,7 @@ bare_height tool floor z in_range reached = record {
   ];
 }
 
-pub held_height : (tool : Tool) (holder : Solid) (floor height z : ℤ) → tool.holder ≡ Some holder → IsToolHeight z → (height ≡ floor) ⊎ IsUnderTop tool.cutter height
+held_height : (tool : Tool) (holder : Solid) (floor height z : ℤ) → tool.holder ≡ Some holder → IsToolHeight z → (height ≡ floor) ⊎ IsUnderTop tool.cutter height
     → (z ≡ height) ⊎ IsUnderTop holder z → IsHeightFrom tool floor z
 held_height tool holder floor height z some in_range first second = elim second [
   | inl same ↦ bare_height tool floor z in_range (subst (λ (h : ℤ). (h ≡ floor) ⊎ IsUnderTop tool.cutter h) (sym same) first)
@@ -117,3 +119,36 @@ held_height tool holder floor height z some in_range first second = elim second 
     reached = inr (inr (subst (λ o. MatchOption o ⊥ (λ h. IsUnderTop h z)) (sym some) held));
   }
 ]
+
+-- ---- and as the machine stores the place and the heights
+
+module _ (tool : Tool) (part : List Tri) (x y floor : ℤ) (x_fits : FitsSigned w32 x) (y_fits : FitsSigned w32 y) (floor_fits : FitsSigned w32 floor) where
+  -- how high one solid raises the tool from there, as it is worked out
+  pub record Raises (solid : Solid) (from z : ℤ) : Type 0 where
+    pub drop : IsSolidDrop solid part (stored w32 x) (stored w32 y) (stored w32 from) z
+    pub bound : IsToolHeight z
+    pub reached : (z ≡ stored w32 from) ⊎ IsUnderTop solid z
+
+  plain : (solid : Solid) (from z : ℤ) → stored w32 from ≡ from → Raises solid from z → IsSolidDrop solid part x y from z
+  plain solid from z kept raises = rw (to_z-of_z w32 x x_fits, to_z-of_z w32 y y_fits, kept) at raises.drop
+
+  module _ (height : ℤ) (cutter : Raises tool.cutter floor height) where
+    begins : IsSolidDrop tool.cutter part x y floor height
+    begins = plain tool.cutter floor height (to_z-of_z w32 floor floor_fits) cutter
+
+    up : (height ≡ floor) ⊎ IsUnderTop tool.cutter height
+    up = rw (to_z-of_z w32 floor floor_fits) at cutter.reached
+
+    pub bare_stored : tool.holder ≡ None → IsDropHeight tool part x y floor (stored w32 height)
+    bare_stored none = rw (tool_stored height cutter.bound) (bare_drop_is tool part x y floor height none begins)
+
+    pub bare_from : IsHeightFrom tool floor (stored w32 height)
+    bare_from = rw (tool_stored height cutter.bound) (bare_height tool floor height cutter.bound up)
+
+    module _ (holder : Solid) (z : ℤ) (some : tool.holder ≡ Some holder) (held : Raises holder height z) where
+      pub held_stored : IsDropHeight tool part x y floor (stored w32 z)
+      held_stored = rw (tool_stored z held.bound)
+          (held_drop_is tool holder part x y floor height z some begins (plain holder height z (tool_stored height cutter.bound) held))
+
+      pub held_from : IsHeightFrom tool floor (stored w32 z)
+      held_from = rw (tool_stored z held.bound) (held_height tool holder floor height z some held.bound up (rw (tool_stored height cutter.bound) at held.reached))

@@ -13,6 +13,7 @@ use Rattle.mill_gouge.specs.Gouges.{PassesPart, ToolPassesPart}
 use Rattle.mill_gouge.specs.Laws.{RaisingKeepsPass, OverPartPasses, PassesFromLift, PassingNeedsNoLift, OneLift}
 use Rattle.mill_gouge.specs.Lifts.{raised, IsLeastLift}
 use Rattle.mill_gouge.proofs.Looking.{over_clears}
+use Rattle.mill_gouge.proofs.Lows.{cutter_over, holder_over}
 use Rattle.mill_gouge.proofs.Rising.{tool_rises}
 
 none_less : (n : ℕ) → (pos 0) ≤ℤ pos n
@@ -80,14 +81,14 @@ one_lift tool part m n k first second =
 -- ---- over the part
 
 pub over_part_passes : OverPartPasses
-over_part_passes tool part m top lowest under over = record { cutter = passes tool.cutter lowest.cutter; holder = by tool.holder lowest.holder }
+over_part_passes tool part m top under over = record {
+  cutter = passes tool.cutter (cutter_over tool top (low_end_of m) over);
+  holder = by tool.holder (holder_over tool top (low_end_of m) over);
+}
   where
-    up : (a b s : ℤ) → a ≤ℤ b → (pos 0) ≤ℤ s → a ≤ℤ (b +ℤ s)
-    up a b s p q = omega (p, q, arith, ints)
+    passes : (solid : Solid) → top ≤ℤ (low_end_of m +ℤ solid.lift) → PassesPart solid m part
+    passes solid high = over_clears solid m part top under (rw (low_end_lifted solid m) high)
 
-    passes : (solid : Solid) → (pos 0) ≤ℤ solid.lift → PassesPart solid m part
-    passes solid least = over_clears solid m part top under (rw (low_end_lifted solid m) (up top (low_end_of m) solid.lift over least))
-
-    by : (o : Option Solid) → IfSome o (λ holder. (pos 0) ≤ℤ holder.lift) → IfSome o (λ holder. PassesPart holder m part)
-    by None least = tt
-    by (Some holder) least = passes holder least
+    by : (o : Option Solid) → IfSome o (λ holder. top ≤ℤ (low_end_of m +ℤ holder.lift)) → IfSome o (λ holder. PassesPart holder m part)
+    by None high = tt
+    by (Some holder) high = passes holder high

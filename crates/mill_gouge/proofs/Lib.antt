@@ -2,7 +2,8 @@ mod ReadLemmas
 mod Looking
 mod BothSolids
 mod RisingCerts
-mod Rising
+pub mod Rising
+mod Lows
 pub mod Leasts
 mod Clearing
 mod Rooms

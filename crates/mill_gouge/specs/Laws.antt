@@ -9,17 +9,16 @@ use Rattle.mill_base.specs.declared.motion.Move.{Move}
 use Rattle.mill_base.specs.declared.points.Tri.{Tri}
 use Rattle.mill_base.specs.declared.tool.Tool.{Tool}
 use Rattle.mill_base.specs.declared.unit.Unit.TheVariants.{Hundredth}
-use Rattle.mill_sweep.specs.Reach.{low_end_of}
 use Rattle.mill_gouge.specs.Gouges.{ToolPassesPart}
-use Rattle.mill_gouge.specs.Lifts.{raised, HasRoom, IsLeastLift, IsTipLowest}
+use Rattle.mill_gouge.specs.Lifts.{raised, lowest_tip_of, HasRoom, IsLeastLift}
 
 -- a tool that passes the part on a move passes it on the raised move
 abbrev pub RaisingKeepsPass : Type 0
 RaisingKeepsPass = (tool : Tool) (part : List Tri) (m : Move) (n : ℕ) → ToolPassesPart tool m part → ToolPassesPart tool (raised n m) part
 
--- on a move that stays over each corner of the part, or at its height, a tool passes the part
+-- on a move on which the tips of its solids stay over each corner of the part, or at its height, a tool passes the part
 abbrev pub OverPartPasses : Type 0
-OverPartPasses = (tool : Tool) (part : List Tri) (m : Move) (top : ℤ) → IsTipLowest tool → IsUnder part top → top ≤ℤ low_end_of m → ToolPassesPart tool m part
+OverPartPasses = (tool : Tool) (part : List Tri) (m : Move) (top : ℤ) → IsUnder part top → top ≤ℤ lowest_tip_of tool m → ToolPassesPart tool m part
 
 -- raised by the least lift or by more, the tool passes the part, and by less it doesn't
 abbrev pub PassesFromLift : Type 0
@@ -38,6 +37,7 @@ LiftedIsClear = (tool : Tool) (part : List Tri) (m : Move) (n k : ℕ) (a d : �
 abbrev pub OneLift : Type 0
 OneLift = (tool : Tool) (part : List Tri) (m : Move) (n k : ℕ) → IsLeastLift tool part m n → IsLeastLift tool part m k → n ≡ k
 
--- a move and a part as texts in units of 0.01 mm give them have room
+-- a move and a part as texts in units of 0.01 mm give them have room, for each tool of solids in range
 abbrev pub HundredthsHaveRoom : Type 0
-HundredthsHaveRoom = (part : List Tri) (m : Move) → TrisInUnitRange Hundredth part → MoveInUnitRange Hundredth m → HasRoom part m
+HundredthsHaveRoom = (tool : Tool) (part : List Tri) (m : Move) → IsSolid tool.cutter → IfSome tool.holder IsSolid → TrisInUnitRange Hundredth part → MoveInUnitRange Hundredth m
+    → HasRoom tool part m

@@ -1,7 +1,7 @@
 ghost use Rattle.std.specs.Prelude.{◌≡◌, IsTrue, false};
 ghost use Rattle.mill_base.specs.Ranges.{MoveInRange};
 ghost use Rattle.mill_gouge.specs.Gouges.{ToolPassesPart};
-ghost use Rattle.mill_gouge.specs.Lifts.{HasRoom, IsLeastLift, IsTipLowest, raised};
+ghost use Rattle.mill_gouge.specs.Lifts.{HasRoom, IsLeastLift, raised};
 
 use crate::clear::tool_clears;
 use crate::raise::raise;
@@ -11,21 +11,20 @@ use mill_part::SortedPart;
 
 /// The least whole number of units by which the move is to be raised, at both its ends, so that the
 /// tool passes each triangle of the part, with its cutter and with its holder; 0 where it passes
-/// already. No solid of the tool may have its tip under the tool's.
+/// already. A solid's tip may be under the tool's.
 ///
 /// The magnitudes of the move's coordinates are at most 524,287, and so are those of the move that
 /// is raised over the part, as `has_room` tells. The move is tested at most 21 times: as it stands,
 /// and for each halving of the stretch in which the lift lies.
 pub fn least_lift(tool: &Tool, part: &SortedPart, step: &Move) -> u32
-    requires lowest { IsTipLowest tool.now }
     requires move_ok { MoveInRange step.now }
-    requires room_ok { HasRoom part.now step.now }
+    requires room_ok { HasRoom tool.now part.now step.now }
     ensures { IsLeastLift tool.now part.now step.now result }
 {
     if tool_clears(tool, part, step) {
         return 0;
     }
-    least_up_to(tool, part, step, enough(part.part(), step))
+    least_up_to(tool, part, step, enough(tool, part.part(), step))
 }
 
 /// The least lift of a move that doesn't pass as it stands, where this one is enough.

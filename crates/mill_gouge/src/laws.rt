@@ -7,8 +7,8 @@ pub fn raising_keeps_pass()
     ensures { RaisingKeepsPass }
 {}
 
-/// A law: a tool passes the part on a move that stays over each corner of the part, or at its
-/// height.
+/// A law: a tool passes the part on a move on which the tips of its solids stay over each corner of
+/// the part, or at its height.
 ///
 /// It has no code, as [`raising_keeps_pass`].
 pub fn over_part_passes()

@@ -16,6 +16,7 @@ mod raise;
 mod reach;
 mod room;
 mod top;
+mod under;
 
 pub use bisect::least_lift;
 pub use clear::{clears, tool_clears};

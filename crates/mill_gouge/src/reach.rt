@@ -1,6 +1,5 @@
 ghost use Rattle.std.specs.Prelude.{MatchOption};
 ghost use Rattle.mill_base.specs.Ranges.{MoveInRange};
-ghost use Rattle.mill_base.specs.Solids.{IsSolid};
 ghost use Rattle.mill_gouge.specs.Gouges.{PassesPart};
 ghost use Rattle.mill_gouge.specs.inner.Reaches.{IsReach};
 
@@ -27,7 +26,6 @@ pub fn reach_of(solid: Solid, part: &Part, step: &Move) -> Option<Reach>
         (PassesPart solid step.now part.now)
         (IsReach solid step.now) }
 {
-    is_in_range(solid);
     let (area, low) = reach_box(solid, step);
     if low >= lid(part) {
         return None;
@@ -37,14 +35,4 @@ pub fn reach_of(solid: Solid, part: &Part, step: &Move) -> Option<Reach>
         area,
         low,
     })
-}
-
-/// A law: each solid is in range.
-///
-/// It does nothing: what it promises is its contract.
-fn is_in_range(solid: Solid)
-    ensures { IsSolid solid }
-{
-    let _cutter = solid.cutter();
-    let _lift = solid.lift();
 }

@@ -100,12 +100,18 @@ is_job unit cutter space measure paths extras c s m p e related = record {
   stickout = e.stickout;
   wider = related.of_cut.wider;
   path_tol_ok = e.path_tol_ok;
+  slack_ok = e.slack_ok;
+  overcut_ok = e.overcut_ok;
+  graze_ok = e.graze_ok;
+  room = related.of_room.room;
+  holder_room = related.of_room.holder_room;
 }
 
 -- the numbers with which the relations are reckoned are in range
 pub is_ranged : (unit : Unit) (cutter : Cutter) (space : Space) (measure : Measure) (paths : Paths) (extras : Extras)
-    → IsSpace unit space → IsMeasure measure → ArePaths unit paths → IsRanged (job_of_groups unit cutter space measure paths extras)
-is_ranged unit cutter space measure paths extras s m p = record { floor_ok = s.floor_ok; top_ok = s.top_ok; area_ok = s.area_ok; pitch_ok = m.pitch_ok; layer_ok = p.layer_ok }
+    → IsCutter cutter → IsSpace unit space → IsMeasure measure → ArePaths unit paths → AreExtras unit extras → IsRanged (job_of_groups unit cutter space measure paths extras)
+is_ranged unit cutter space measure paths extras c s m p e =
+    record { cutter_ok = c; floor_ok = s.floor_ok; top_ok = s.top_ok; area_ok = s.area_ok; pitch_ok = m.pitch_ok; layer_ok = p.layer_ok; slack_ok = e.slack_ok; graze_ok = e.graze_ok }
 
 -- behind keys with which nothing is wrong, the relations decide
 pub by_relations : (answer : Result JobFields JobFault) (fault : Option JobFault) (job other : JobFields) (faults : List (Option JobFault))

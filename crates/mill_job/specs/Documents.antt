@@ -14,10 +14,11 @@ use Rattle.mill_decimal.specs.declared.snap.Snap.TheVariants.{Nearest, Exact}
 use Rattle.mill_job.specs.Columns.{row_count, column_count}
 use Rattle.mill_job.specs.Cutters.{cutter_faults, cutter_of, shape_fault, slope_fault}
 use Rattle.mill_job.specs.Holders.{holder_fault, holder_of, is_narrow}
+use Rattle.mill_job.specs.Slack.{graze_of, is_holder_close, is_low, is_shallow, is_tight}
 use Rattle.mill_job.specs.Keys.{name_of, every_key, unknown_but}
 use Rattle.mill_job.specs.Tables.{text_fault_if_there, number_fault, number_fault_if_there, coordinate_fault, array_fault, array_fault_if_there, is_area, is_place, are_levels, number_given, number_at, number_or, numbers_at, area_of, place_of, levels_of, fault_if, first, checked}
 use Rattle.mill_job.specs.declared.fields.JobFields.{JobFields}
-use Rattle.mill_job.specs.declared.limits.TheConstants.{MAX_DISTANCE, MAX_LAYERS}
+use Rattle.mill_job.specs.declared.limits.TheConstants.{MAX_DISTANCE, MAX_GRAZE, MAX_LAYERS, MAX_OVERCUT, MAX_SLACK}
 use Rattle.mill_job.specs.declared.key.Key.TheVariants as key
 use Rattle.mill_job.specs.declared.fault.JobFault.{JobFault}
 use Rattle.mill_job.specs.declared.fault.JobFault.TheVariants.{Syntax, Unknown, Relation, WantOfMemory}
@@ -61,6 +62,9 @@ key_faults_in unit ms =
     ∷ number_fault_if_there key.MaxCut (pos 0) (pos (greatest_of unit)) ms
     ∷ holder_fault unit ms
     ∷ number_fault_if_there key.PathTol (pos 0) MAX_DISTANCE ms
+    ∷ number_fault_if_there key.Slack (pos 0) MAX_SLACK ms
+    ∷ number_fault_if_there key.Overcut (pos 0) MAX_OVERCUT ms
+    ∷ number_fault_if_there key.Graze (pos 0) MAX_GRAZE ms
     ∷ []
 
 -- what is wrong with each key, in the format's order: the unit comes first, since the ranges of others are by it
@@ -107,6 +111,9 @@ job_with unit ms = record {
   max_cut = number_or key.MaxCut (pos 0) ms;
   holder = holder_of ms;
   path_tol = number_given key.PathTol ms;
+  slack = number_or key.Slack (pos 0) ms;
+  overcut = number_or key.Overcut (pos 0) ms;
+  graze = number_given key.Graze ms;
 }
 
 -- the same in the document's unit
@@ -121,6 +128,15 @@ has_many_layers job = int_lt (pos 0) job.layer && int_lt (MAX_LAYERS *ℤ job.la
 abbrev pub is_level : ℤ → ℤ → ℤ → Bool
 is_level floor top z = int_le floor z && int_lt z top
 
+-- what is wrong between a job's slack, its overcut or its graze and a cutter, in order
+abbrev pub slack_faults : JobFields → Cutter → List (Option JobFault)
+slack_faults job cutter =
+    fault_if (is_tight (radius_of cutter) job.slack) (Relation key.Slack key.Radius)
+    ∷ fault_if (int_le (radius_of cutter) job.overcut) (Relation key.Overcut key.Radius)
+    ∷ fault_if (int_le (radius_of cutter) (graze_of job)) (Relation key.Graze key.Radius)
+    ∷ fault_if (is_shallow cutter job.slack (graze_of job)) (Relation key.Graze key.Slack)
+    ∷ []
+
 -- what is wrong between a job's numbers, in order
 abbrev pub relation_faults : JobFields → List (Option JobFault)
 relation_faults job =
@@ -131,6 +147,9 @@ relation_faults job =
     ∷ fault_if (has_many_layers job) (Relation key.Layer key.Top)
     ∷ fault_if (not (list_all (is_level job.floor job.top) job.levels)) (Relation key.Levels key.Top)
     ∷ fault_if (is_narrow (radius_of job.cutter) job.holder) (Relation key.Radius key.HolderRadius)
+    ∷ slack_faults job job.cutter
+    ++ fault_if (is_holder_close job.slack job.holder) (Relation key.Slack key.Stickout)
+    ∷ fault_if (is_low job job.cutter) (Relation key.Slack key.Clear)
     ∷ []
 
 -- what is wrong between another cutter and a job's numbers, in order
@@ -138,6 +157,8 @@ abbrev pub fit_faults : JobFields → Cutter → List (Option JobFault)
 fit_faults job cutter =
     fault_if (int_lt (radius_of cutter) job.band) (Relation key.Band key.Radius)
     ∷ fault_if (is_narrow (radius_of cutter) job.holder) (Relation key.Radius key.HolderRadius)
+    ∷ slack_faults job cutter
+    ++ fault_if (is_low job cutter) (Relation key.Slack key.Clear)
     ∷ []
 
 -- the document's first fault: an unknown key, a key's own fault, one between the cutter's keys, one between the others

@@ -1,16 +1,19 @@
 -- The ranges and relations that a job keeps, and the tool with which it cuts.
-use Rattle.std.specs.Prelude.{◌*◌, ◌≤◌, List, length, All, AllPairs, ℤ, pos, ◌-ℤ◌, ◌*ℤ◌, ◌<ℤ◌, ◌≤ℤ◌, IfSome}
+use Rattle.std.specs.Prelude.{◌*◌, ◌≤◌, List, length, All, AllPairs, ℤ, pos, ◌+ℤ◌, ◌-ℤ◌, ◌*ℤ◌, ◌<ℤ◌, ◌≤ℤ◌, IfSome}
 use Rattle.mill_base.specs.Numbers.{Within}
-use Rattle.mill_base.specs.declared.limits.TheConstants.{MAX_COLUMNS}
+use Rattle.mill_base.specs.declared.limits.TheConstants.{MAX_COLUMNS, MAX_RADIUS}
 use Rattle.mill_base.specs.Sizes.{IsCutter, radius_of}
-use Rattle.mill_base.specs.Solids.{IsSolid, at_tip}
+use Rattle.mill_base.specs.Solids.{IsSolid, Solid}
 use Rattle.mill_base.specs.Units.{greatest_of}
 use Rattle.mill_base.specs.declared.cutter.Cutter.{Cutter}
 use Rattle.mill_base.specs.declared.tool.Tool.{Tool}
 use Rattle.mill_job.specs.Columns.{row_count, column_count}
+use Rattle.mill_job.specs.Slack.{graze_of}
+use Rattle.mill_job.specs.Solids.{holder_solid_of, outer_of, part_solid_of}
 use Rattle.mill_job.specs.Tables.{IsPlace}
 use Rattle.mill_job.specs.declared.fields.JobFields.{JobFields}
-use Rattle.mill_job.specs.declared.limits.TheConstants.{MAX_DISTANCE, MAX_LAYERS, MAX_LEVELS}
+use Rattle.mill_job.specs.declared.limits.TheConstants.{MAX_DISTANCE, MAX_GRAZE, MAX_LAYERS, MAX_LEVELS, MAX_OVERCUT, MAX_SLACK}
+use Rattle.mill_margin.specs.Margins.{offset_of}
 
 -- z is from lo to hi
 pub record IsFrom (lo hi z : ℤ) : Type 0 where
@@ -31,6 +34,28 @@ pub record AreLevels (floor top : ℤ) (levels : List ℤ) : Type 0 where
   pub few : length levels ≤ MAX_LEVELS
   pub falling : AllPairs (λ before after. after <ℤ before) levels
   pub within : All (IsLevel floor top) levels
+
+-- a cutter is one with a slack around it, and with a slack, an overcut or a graze taken off; the graze is as much as two slacks, in width and in height
+pub record IsRoomy (slack overcut graze : ℤ) (cutter : Cutter) : Type 0 where
+  pub slack_in : slack <ℤ radius_of cutter
+  pub slack_around : (radius_of cutter +ℤ slack) ≤ℤ MAX_RADIUS
+  pub overcut_in : overcut <ℤ radius_of cutter
+  pub graze_in : graze <ℤ radius_of cutter
+  pub graze_wide : (pos 2 *ℤ slack) ≤ℤ graze
+  pub graze_high : (pos 2 *ℤ offset_of cutter slack) ≤ℤ offset_of cutter graze
+
+-- a holder stays over the tip with a slack around it, and is no wider than a solid may be
+pub record IsHeldOff (slack : ℤ) (holder : Solid) : Type 0 where
+  pub over_tip : offset_of holder.cutter slack <ℤ holder.lift
+  pub slack_around : (radius_of holder.cutter +ℤ slack) ≤ℤ MAX_RADIUS
+
+-- the job's slack, its overcut and its graze fit a cutter, and with the slack around it the cutter stays over the stock at the clear height
+unfoldable pub HasRoom : JobFields → Cutter → Type 0
+HasRoom job cutter = IsRoomy job.slack job.overcut (graze_of job) cutter × ((job.top +ℤ offset_of cutter job.slack) ≤ℤ job.clear)
+
+-- the slack fits the job's holder, if it has one
+unfoldable pub HolderHasRoom : JobFields → Type 0
+HolderHasRoom job = IfSome job.holder (IsHeldOff job.slack)
 
 -- every number of the job is in its range, and the relations between them hold
 pub record IsJob (job : JobFields) : Type 0 where
@@ -65,13 +90,23 @@ pub record IsJob (job : JobFields) : Type 0 where
   pub stickout : IfSome job.holder (λ holder. (pos 1) ≤ℤ holder.lift)
   pub wider : IfSome job.holder (λ holder. radius_of job.cutter <ℤ radius_of holder.cutter)
   pub path_tol_ok : IfSome job.path_tol (IsFrom (pos 0) MAX_DISTANCE)
+  pub slack_ok : IsFrom (pos 0) MAX_SLACK job.slack
+  pub overcut_ok : IsFrom (pos 0) MAX_OVERCUT job.overcut
+  pub graze_ok : IfSome job.graze (IsFrom (pos 0) MAX_GRAZE)
+  pub room : HasRoom job job.cutter
+  pub holder_room : HolderHasRoom job
 
 -- the job's relations hold with this cutter in the place of its own
 pub record FitsJob (job : JobFields) (cutter : Cutter) : Type 0 where
   pub cutter_ok : IsCutter cutter
   pub narrow : job.band ≤ℤ radius_of cutter
   pub wider : IfSome job.holder (λ holder. radius_of cutter <ℤ radius_of holder.cutter)
+  pub room : HasRoom job cutter
 
--- a job's cutter, with its tip at the tool's, and its holder if it has one
+-- what a job's tool may touch, by its cutter and by its holder, if it has one
 abbrev pub tool_of : JobFields → Tool
-tool_of job = record { cutter = at_tip job.cutter; holder = job.holder }
+tool_of job = record { cutter = outer_of job; holder = holder_solid_of job }
+
+-- what of it is tested against the part
+abbrev pub part_tool_of : JobFields → Tool
+part_tool_of job = record { cutter = part_solid_of job; holder = holder_solid_of job }

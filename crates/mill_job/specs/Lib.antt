@@ -5,6 +5,8 @@ pub mod Keys
 pub mod Tables
 pub mod Cutters
 pub mod Holders
+pub mod Slack
+pub mod Solids
 pub mod Documents
 pub mod NoUnit
 pub mod Filled

@@ -59,4 +59,11 @@ pub struct JobFields {
     /// heights under them, the lift aside, from 0 to 10,000; with `None` the path comes to each node of
     /// its lattice instead.
     pub path_tol: Option<i32>,
+    /// How far the machine's tip may be from where the program says, at each moment, from 0 to 200.
+    pub slack: i32,
+    /// How deep a part point may lie inside the cutter and be no gouge, from 0 to 500.
+    pub overcut: i32,
+    /// How deep a stock point may lie inside the cutter and be shaved off by a rapid, and count as
+    /// no depth, from 0 to 500; with `None` it is as [`Job::graze`](crate::Job::graze) says.
+    pub graze: Option<i32>,
 }

@@ -9,6 +9,7 @@ use crate::fault::JobFault;
 use crate::fields::JobFields;
 use crate::job::Job;
 use crate::key::Key;
+use crate::slack::{has_low_clear, slack_fault};
 use mill_base::Cutter;
 
 /// Whether the job has a holder that isn't wider than a cutter.
@@ -24,8 +25,9 @@ pub fn has_narrow_holder(job: &JobFields, cutter: &Cutter) -> bool
 }
 
 impl Job {
-    /// The first of the job's relations that fails with another cutter: its band is over the radius, or
-    /// its holder isn't wider.
+    /// The first of the job's relations that fails with another cutter: its band is over the
+    /// radius, its holder isn't wider, or the cutter has no room for its slack, its overcut or its
+    /// graze.
     pub fn cutter_fault(&self, cutter: &Cutter) -> Option<JobFault>
         requires { IsCutter cutter.now }
         ensures value { result ≡ first (fit_faults self.now.fields cutter.now) }
@@ -37,6 +39,12 @@ impl Job {
         if has_narrow_holder(&self.fields, cutter) {
             return Some(JobFault::Relation(Key::Radius, Key::HolderRadius));
         }
+        if let Some(fault) = slack_fault(&self.fields, cutter) {
+            return Some(fault);
+        }
+        if has_low_clear(&self.fields, cutter) {
+            return Some(JobFault::Relation(Key::Slack, Key::Clear));
+        }
         None
     }
 
@@ -45,11 +53,9 @@ impl Job {
         requires { FitsJob self.now.fields cutter }
         ensures { result.fields ≡ record self.now.fields { cutter = cutter } }
     {
-        Job {
-            fields: JobFields {
-                cutter,
-                ..self.fields
-            },
-        }
+        Job::new(JobFields {
+            cutter,
+            ..self.fields
+        })
     }
 }

@@ -12,7 +12,7 @@ use crate::fields::Place;
 use crate::holder::holder;
 use crate::key::Key;
 use crate::levels::Levels;
-use crate::limits::MAX_DISTANCE;
+use crate::limits::{MAX_DISTANCE, MAX_GRAZE, MAX_OVERCUT, MAX_SLACK};
 use crate::values::{coordinate, depth, number, number_if_there, number_or, snap};
 use mill_base::{Box2, Solid, Unit};
 use mill_decimal::Snap;
@@ -55,6 +55,9 @@ pub struct Extras {
     pub max_cut: i32,
     pub holder: Option<Solid>,
     pub path_tol: Option<i32>,
+    pub slack: i32,
+    pub overcut: i32,
+    pub graze: Option<i32>,
 }
 
 /// Where the document's stock stands, and from where programs start.
@@ -116,5 +119,8 @@ pub fn extras_in(table: &Table, unit: Unit) -> Result<Extras, JobFault>
         max_cut: depth(table, Key::MaxCut, unit)?,
         holder: holder(table, unit)?,
         path_tol: number_if_there(table, Key::PathTol, 0, MAX_DISTANCE)?,
+        slack: number_or(table, Key::Slack, 0, MAX_SLACK, 0)?,
+        overcut: number_or(table, Key::Overcut, 0, MAX_OVERCUT, 0)?,
+        graze: number_if_there(table, Key::Graze, 0, MAX_GRAZE)?,
     })
 }

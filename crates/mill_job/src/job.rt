@@ -1,15 +1,22 @@
+ghost use Rattle.std.specs.Prelude.{◌≡◌};
 ghost use Rattle.mill_job.specs.inner.Facts.{job_props};
 ghost use Rattle.mill_job.specs.Jobs.{IsJob};
+ghost use Rattle.mill_job.specs.Solids.{solids_of};
 
 use crate::fields::JobFields;
 use crate::positions::{count, position};
+use crate::slack::graze;
+use crate::solids::{Solids, solids_by};
 use mill_base::{Pt3, Solid, Tool};
 
-/// A job: its numbers, each in its range, and the relations between them hold.
+/// A job: its numbers, each in its range, with the relations between them; and the solids of its
+/// tool.
 #[derive(Clone, Copy, Debug, PartialEq, Eq)]
 pub struct Job {
     pub fields: JobFields,
+    solids: Solids,
     pub ghost is_job: { IsJob fields } by { Prim.hlevel job_props },
+    pub ghost are_solids: { solids ≡ solids_of fields } by { Prim.hlevel job_props },
 }
 
 impl Job {
@@ -19,16 +26,84 @@ impl Job {
     ghost use Rattle.mill_base.specs.Ranges.{IsInUnitRange};
     ghost use Rattle.mill_base.specs.Units.{greatest_of};
     ghost use Rattle.mill_job.specs.Columns.{row_count, column_count, column_x as x_of_column, column_y, home as home_of};
-    ghost use Rattle.mill_job.specs.Jobs.{tool_of};
+    ghost use Rattle.mill_job.specs.Jobs.{part_tool_of, tool_of};
+    ghost use Rattle.mill_job.specs.Solids.{holder_solid_of, inner_of, outer_of, part_solid_of, stock_solid_of};
+    ghost use Rattle.mill_job.specs.Slack.{graze_of};
+    ghost use Rattle.mill_margin.specs.Margins.{IsMargin};
 
-    /// The cutter, with its holder if it has one.
+    /// The job of these numbers, with the solids of its tool.
+    pub fn new(fields: JobFields) -> Job
+        requires { IsJob fields }
+        ensures { result.fields ≡ fields }
+    {
+        let solids = solids_by(&fields);
+        Job { fields, solids }
+    }
+
+    /// What the cutter may touch.
+    pub fn outer(&self) -> Solid
+        ensures { result ≡ outer_of self.now.fields }
+    {
+        self.solids.outer
+    }
+
+    /// What the cutter removes for sure.
+    pub fn inner(&self) -> Solid
+        ensures { result ≡ inner_of self.now.fields }
+    {
+        self.solids.inner
+    }
+
+    /// What is tested against the part: what may lie deeper in the cutter than the overcut.
+    pub fn part_solid(&self) -> Solid
+        ensures { result ≡ part_solid_of self.now.fields }
+    {
+        self.solids.part
+    }
+
+    /// What is tested against the stock: what may lie deeper in the cutter than the graze.
+    pub fn stock_solid(&self) -> Solid
+        ensures { result ≡ stock_solid_of self.now.fields }
+    {
+        self.solids.stock
+    }
+
+    /// What the holder may touch, if there is one.
+    pub fn holder_solid(&self) -> Option<Solid>
+        ensures { result ≡ holder_solid_of self.now.fields }
+    {
+        self.solids.holder
+    }
+
+    /// What the tool may touch, by its cutter and by its holder, if it has one: each with the slack
+    /// around it.
     pub fn tool(&self) -> Tool
         ensures { result ≡ tool_of self.now.fields }
     {
         Tool {
-            cutter: Solid::at_tip(self.fields.cutter),
-            holder: self.fields.holder,
+            cutter: self.outer(),
+            holder: self.holder_solid(),
         }
+    }
+
+    /// What of the tool is tested against the part.
+    pub fn part_tool(&self) -> Tool
+        ensures { result ≡ part_tool_of self.now.fields }
+    {
+        Tool {
+            cutter: self.part_solid(),
+            holder: self.holder_solid(),
+        }
+    }
+
+    /// How deep a stock point may lie inside the cutter and be shaved off by a rapid, and count as
+    /// no depth, in units: as given, else 0 without a slack, and 5 more than twice the slack with
+    /// one.
+    pub fn graze(&self) -> i32
+        ensures value { result ≡ graze_of self.now.fields }
+        ensures in_range { IsMargin result }
+    {
+        graze(&self.fields)
     }
 
     /// How many rows of columns the stock has.

@@ -31,6 +31,9 @@ pub enum Key {
     HolderRadius,
     Stickout,
     PathTol,
+    Slack,
+    Overcut,
+    Graze,
     /// The key of a list.
     Steps,
     /// A key of each of its steps, beside those of the cutter.
@@ -38,7 +41,7 @@ pub enum Key {
 }
 
 /// The keys of a job's document, in the format's order.
-pub const JOB_KEYS: [Key; 25] = [
+pub const JOB_KEYS: [Key; 28] = [
     Key::Unit,
     Key::Cutter,
     Key::Radius,
@@ -64,6 +67,9 @@ pub const JOB_KEYS: [Key; 25] = [
     Key::HolderRadius,
     Key::Stickout,
     Key::PathTol,
+    Key::Slack,
+    Key::Overcut,
+    Key::Graze,
 ];
 
 impl Key {
@@ -97,6 +103,9 @@ impl Key {
             Key::HolderRadius => "holder_radius",
             Key::Stickout => "stickout",
             Key::PathTol => "path_tol",
+            Key::Slack => "slack",
+            Key::Overcut => "overcut",
+            Key::Graze => "graze",
             Key::Steps => "steps",
             Key::Program => "program",
         }

@@ -4,6 +4,18 @@
 /// of paths.
 pub const MAX_DISTANCE: i32 = 10_000;
 
+/// The greatest slack.
+pub const MAX_SLACK: i32 = 200;
+
+/// The greatest overcut.
+pub const MAX_OVERCUT: i32 = 500;
+
+/// The greatest graze.
+pub const MAX_GRAZE: i32 = 500;
+
+/// How much the graze is over twice a slack where the job doesn't say.
+pub const SPARE_GRAZE: i32 = 5;
+
 /// The most layers that roughing may take off.
 pub const MAX_LAYERS: i32 = 1_000;
 

@@ -17,12 +17,13 @@ use std::alloc::Global;
 ///
 /// # Errors
 ///
-/// The first in this order: the document's syntax; a key other than `steps`, the first by its bytes;
-/// that `steps` is missing, or no array, or has a member that is no table, or not 1 to 16 of them; then
-/// for each table in turn an unknown key, the first by its bytes; for each key in the order above, that
-/// it is missing, of a wrong kind or out of range, which a program's name never is; and a relation that
-/// fails: only a cone has a rise, only a cone has a run, rise is at most 16 times run, the job's band is
-/// at most the radius, and the radius of its holder, if it has one, is over it.
+/// The first in this order: the document's syntax; a key other than `steps`, the first by its
+/// bytes; that `steps` is missing, or no array, or has a member that is no table, or not 1 to 16 of
+/// them; then for each table in turn an unknown key, the first by its bytes; for each key in the
+/// order above, that it is missing, of a wrong kind or out of range, which a program's name never
+/// is; and a relation that fails: only a cone has a rise, only a cone has a run, rise is at most 16
+/// times run, the job's band is at most the radius, the radius of its holder, if it has one, is
+/// over it, and its slack, its overcut and its graze fit the cutter as they fit a job's own.
 pub fn read_list(alloc: Global, text: &[u8], job: &Job) -> Result<Vec<Step>, JobFault>
     ensures gives { GivesList job.now.fields text.now result }
     ensures fit { IfOk result (λ steps. All (λ step. FitsJob job.now.fields step.cutter) steps.items) }

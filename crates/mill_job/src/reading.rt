@@ -59,6 +59,9 @@ fn assembled(
         max_cut: extras.max_cut,
         holder: extras.holder,
         path_tol: extras.path_tol,
+        slack: extras.slack,
+        overcut: extras.overcut,
+        graze: extras.graze,
     }
 }
 
@@ -101,26 +104,33 @@ fn read_fields(alloc: Global, text: &[u8]) -> Result<JobFields, JobFault>
 }
 
 /// Reads a job: a TOML 1.0 document with each key of [`Key`] and no other; `unit`, `snap`, `lift`,
-/// `raster`, `rough_raster`, `layer`, `rough_stock`, `levels`, `max_cut` and `path_tol` may be left out,
-/// `rise` and `run` where the cutter is no cone, and `holder_radius` and `stickout` both or neither.
+/// `raster`, `rough_raster`, `layer`, `rough_stock`, `levels`, `max_cut`, `path_tol`, `slack`,
+/// `overcut` and `graze` may be left out, `rise` and `run` where the cutter is no cone, and
+/// `holder_radius` and `stickout` both or neither.
 ///
 /// `unit` is a text, `hundredth` for 0.01 mm or `thousandth` for 0.001 mm; numbers are whole, in
 /// that unit. `cutter` is a text, `flat`, `ball` or `cone`. `radius`, `pitch`, `sample`, `raster`,
-/// `rough_raster` and `holder_radius` are from 1 to 10,000, `rise` and `run` from 1 to 100, `allowance`,
-/// `band`, `lift`, `rough_stock` and `path_tol` from 0 to 10,000; `layer` and `max_cut` from 0, and
-/// `stickout` from 1, to the unit's greatest coordinate, which is 131,071 or 524,287. `floor`, `top`,
-/// `clear` and the members of `area`, `home` and `levels` are coordinates, of a magnitude of at most
-/// that. `area` has x0, y0, x1, y1, with x0 at most x1 and y0 at most y1; `home` has x, y; `levels` has
-/// at most 64 members, each less than the one before it. `snap` is a text, `nearest` or `exact`.
+/// `rough_raster` and `holder_radius` are from 1 to 10,000, `rise` and `run` from 1 to 100,
+/// `allowance`, `band`, `lift`, `rough_stock` and `path_tol` from 0 to 10,000, `slack` from 0 to
+/// 200, `overcut` and `graze` from 0 to 500; `layer` and `max_cut` from 0, and `stickout` from 1,
+/// to the unit's greatest coordinate, which is 131,071 or 524,287. `floor`, `top`, `clear` and the
+/// members of `area`, `home` and `levels` are coordinates, of a magnitude of at most that. `area`
+/// has x0, y0, x1, y1, with x0 at most x1 and y0 at most y1; `home` has x, y; `levels` has at most
+/// 64 members, each less than the one before it. `snap` is a text, `nearest` or `exact`.
 ///
-/// In a document without them `unit` is `hundredth`, `lift`, `layer`, `rough_stock` and `max_cut` are 0,
-/// `raster` is the pitch, `rough_raster` the raster, `levels` has no member, `snap` is `nearest`, and
-/// there is no holder and no tolerance of paths.
+/// In a document without them `unit` is `hundredth`, `lift`, `layer`, `rough_stock`, `max_cut`,
+/// `slack` and `overcut` are 0, `raster` is the pitch, `rough_raster` the raster, `levels` has no
+/// member, `snap` is `nearest`, there is no holder and no tolerance of paths, and `graze` is as
+/// [`Job::graze`] says.
 ///
 /// The relations are: only a cone has a rise, only a cone has a run, rise is at most 16 times run,
 /// floor at most top, top at most clear, there are at most 4,000,000 columns, band is at most
 /// radius, where layer isn't 0, top is at most 1,000 layers over floor, each of the levels is at
-/// least floor and less than top, and a holder's radius is over the cutter's.
+/// least floor and less than top, a holder's radius is over the cutter's, slack, overcut and graze
+/// are less than radius, and radius and slack together at most 10,000, graze is at least twice
+/// slack, and its offset at least twice the slack's, a holder's stickout is over slack, and its
+/// radius and slack together at most 10,000, and top and the slack's offset together are at most
+/// clear.
 ///
 /// A fault is the first in this order: the document's syntax; an unknown key, the first by its
 /// bytes; for each key in the order of [`Key`], that it is missing, of a wrong kind or out of
@@ -130,5 +140,5 @@ pub fn read_job(alloc: Global, text: &[u8]) -> Result<Job, JobFault>
     ensures { GivesJob text.now (fields_of result) }
 {
     let fields = read_fields(alloc, text)?;
-    Ok(Job { fields })
+    Ok(Job::new(fields))
 }

@@ -6,7 +6,8 @@ ghost use Rattle.mill_job.specs.Columns.{row_count, column_count};
 ghost use Rattle.mill_job.specs.Documents.{has_many_layers as many_layers_in, is_level, relation_faults};
 ghost use Rattle.mill_job.specs.Jobs.{HasFewLayers, IsFrom, IsLevel};
 ghost use Rattle.mill_job.specs.Tables.{first};
-ghost use Rattle.mill_job.specs.inner.Relations.{IsCut, IsRelated, IsStock, cut_faults, stock_faults};
+ghost use Rattle.mill_job.specs.inner.Relations.{IsCut, IsRelated, IsSlackened, IsStock};
+ghost use Rattle.mill_job.specs.inner.Relations.{cut_faults, room_faults, stock_faults};
 ghost use Rattle.mill_job.specs.inner.Ranged.{IsRanged};
 
 use crate::fault::JobFault;
@@ -15,6 +16,7 @@ use crate::fitting::has_narrow_holder;
 use crate::key::Key;
 use crate::limits::MAX_LAYERS;
 use crate::positions::count;
+use crate::slack::{has_close_holder, has_low_clear, slack_fault};
 use mill_base::MAX_COLUMNS;
 
 /// Whether roughing takes off more layers than it may.
@@ -89,14 +91,36 @@ fn cut_fault(job: &JobFields) -> Option<JobFault>
     None
 }
 
+/// The first relation that fails between a job's slack, its overcut or its graze and its cutter,
+/// its holder or its heights.
+fn room_fault(job: &JobFields) -> Option<JobFault>
+    requires { IsRanged job.now }
+    ensures value { result ≡ first (room_faults job.now) }
+    ensures none { result ≡ None → IsSlackened job.now }
+{
+    if let Some(fault) = slack_fault(job, &job.cutter) {
+        return Some(fault);
+    }
+    if has_close_holder(job) {
+        return Some(JobFault::Relation(Key::Slack, Key::Stickout));
+    }
+    if has_low_clear(job, &job.cutter) {
+        return Some(JobFault::Relation(Key::Slack, Key::Clear));
+    }
+    None
+}
+
 /// The first relation between the values of a job that fails.
 pub fn relation_fault(job: &JobFields) -> Option<JobFault>
     requires { IsRanged job.now }
     ensures value { result ≡ first (relation_faults job.now) }
     ensures none { result ≡ None → IsRelated job.now }
 {
-    match stock_fault(job) {
-        Some(fault) => Some(fault),
-        None => cut_fault(job),
+    if let Some(fault) = stock_fault(job) {
+        return Some(fault);
     }
+    if let Some(fault) = cut_fault(job) {
+        return Some(fault);
+    }
+    room_fault(job)
 }

@@ -11,6 +11,7 @@ use Rattle.mill_base.specs.Numbers.{Within, greater, lesser}
 use Rattle.mill_base.specs.Units.{greatest_of}
 use Rattle.mill_base.specs.Points.{highest, point_at, point_tri}
 use Rattle.mill_base.specs.Ranges.{IsInUnitRange, MoveInUnitRange}
+use Rattle.mill_base.specs.Solids.{Solid, higher, lifted}
 use Rattle.mill_base.specs.declared.points.Pt3.{Pt3}
 use Rattle.mill_base.specs.declared.points.Tri.{Tri}
 use Rattle.mill_base.specs.declared.motion.Move.{Move}
@@ -23,18 +24,22 @@ use Rattle.mill_gouge.specs.Gouges.{ToolPassesPart}
 use Rattle.mill_gouge.proofs.Leasts.{over_part_passes}
 use Rattle.mill_job.specs.Columns.{column_x, column_y, home}
 use Rattle.mill_job.specs.Jobs.{IsJob, tool_of}
+use Rattle.mill_job.specs.Solids.{stock_solid_of}
 use Rattle.mill_job.specs.declared.fields.JobFields.{JobFields}
-use Rattle.mill_sweep.specs.Halving.{PassesPoint}
+use Rattle.mill_job.proofs.SolidFacts.{stock_lift}
+use Rattle.mill_sweep.specs.Reach.{low_end_of}
+use Rattle.mill_sweep.specs.Solids.{SolidPassesPoint}
 use Rattle.mill_sweep.specs.Vertical.{StaysOver}
 use Rattle.mill_sweep.proofs.Far.{top_passes}
-use Rattle.mill_links.specs.Links.{at_height, feed_to, rapid_to, is_over_place, climb, cross, descend, peck_count, pecks, plunge, detour, MayFeed, IsLink, way_home}
+use Rattle.mill_links.specs.Links.{at_height, feed_to, rapid_to, is_over_place, climb, cross, descend, over_stock, peck_count, pecks, plunge, detour, MayFeed, IsLink, way_home}
 use Rattle.mill_links.specs.Tours.{AreLinks, last_place}
 use Rattle.mill_links.specs.Safety.{IsSafeMove, AreSafe, Connect, IsFreePlace, IsEndOf, IsReached, GoSafely, LinkIsSafe, TourIsSafe, WayHomeIsSafe}
 use Rattle.mill_links.specs.declared.visit.Visit.{Visit}
 use Rattle.mill_links.proofs.Kept.{between}
+use Rattle.mill_links.proofs.Overs.{clear_most, lifted_over, over_ok, over_part, top_least}
 use Rattle.mill_links.proofs.Pecks.{Fit, pecks_connect, pecks_end, pecks_fit}
 use Rattle.mill_links.proofs.Points.{same_pair}
-use Rattle.mill_links.proofs.ToolLemmas.{passes_over, tip_lowest}
+use Rattle.mill_links.proofs.ToolLemmas.{passes_over}
 
 through : (a b c : ℤ) → a ≤ℤ b → b ≤ℤ c → a ≤ℤ c
 through a b c p q = omega (p, q, arith, ints)
@@ -94,16 +99,33 @@ module _ (job : JobFields) (part : List Tri) where
 
 -- the moves themselves
 module _ (job : JobFields) (part : List Tri) (ok : IsJob job) (under : IsUnder part job.top) where
+  abbrev solid : Solid
+  solid = stock_solid_of job
+
+  floor_least : job.floor ≤ℤ over_stock job
+  floor_least = through _ _ _ ok.stock (top_least job ok)
+
+  -- each column stays under the top of the stock, and under where the tool is just over it
+  column_under : (done : List Move) (x y : ℤ) → top_after job x y done ≤ℤ job.top
+  column_under done x y = (top_after_stays job x y done ok.stock).high
+
+  column_low : (done : List Move) (x y : ℤ) → top_after job x y done ≤ℤ over_stock job
+  column_low done x y = through _ _ _ (column_under done x y) (top_least job ok)
+
+  -- what the tool's tip is over, the tip of what is tested against the stock is over
+  stock_over : (a z : ℤ) → a ≤ℤ z → a ≤ℤ higher (pos 1) z solid.lift
+  stock_over a z over = lifted_over a z solid.lift over (stock_lift job ok)
+
   -- a rapid over the stock
-  over_safe : (done : List Move) (start end : Pt3) → MoveInUnitRange job.unit (rapid_to start end) → job.top ≤ℤ start.z → job.top ≤ℤ end.z
+  over_safe : (done : List Move) (start end : Pt3) → MoveInUnitRange job.unit (rapid_to start end) → over_stock job ≤ℤ start.z → over_stock job ≤ℤ end.z
       → IsSafeMove job part done (rapid_to start end)
   over_safe done start end ranged from to = record {
     ranged = ranged;
-    floor_from = through _ _ _ ok.stock from;
-    floor_to = through _ _ _ ok.stock to;
-    passes = over_part_passes (tool_of job) part m job.top (tip_lowest job ok) under (both_over job.top start.z end.z from to);
+    floor_from = through _ _ _ floor_least from;
+    floor_to = through _ _ _ floor_least to;
+    passes = over_part_passes (tool_of job) part m job.top under (over_part job ok (low_end_of m) (both_over (over_stock job) start.z end.z from to));
     stock = λ rapid x y. let h = low_column x y in
-        top_passes job.cutter m (point_tri (point_at x y (top_after job x y done))) (through _ _ _ h from) (through _ _ _ h to);
+        top_passes solid.cutter (lifted solid m) (point_tri (point_at x y (top_after job x y done))) (stock_over _ start.z (through _ _ _ h from)) (stock_over _ end.z (through _ _ _ h to));
     depth = λ feed. absurd (rapid_is_no_feed feed);
   }
     where
@@ -113,8 +135,8 @@ module _ (job : JobFields) (part : List Tri) (ok : IsJob job) (under : IsUnder p
       both_over : (low a b : ℤ) → low ≤ℤ a → low ≤ℤ b → low ≤ℤ lesser a b
       both_over low a b p q = grind (p, q, arith, ints)
 
-      low_column : (x y : ℤ) → highest (point_tri (point_at x y (top_after job x y done))) ≤ℤ job.top
-      low_column x y = let h = (top_after_stays job x y done ok.stock).high in all_low _ _ _ job.top h h h
+      low_column : (x y : ℤ) → highest (point_tri (point_at x y (top_after job x y done))) ≤ℤ over_stock job
+      low_column x y = let h = column_low done x y in all_low _ _ _ (over_stock job) h h h
 
   -- the tool doesn't gouge at a free place, so it passes the part on a move straight over it
   passes_free : (m : Move) (p : Pt3) → IsFreePlace job part p → StaysOver p m → ToolPassesPart (tool_of job) m part
@@ -148,7 +170,7 @@ module _ (job : JobFields) (part : List Tri) (ok : IsJob job) (under : IsUnder p
     floor_from = at.floor;
     floor_to = through _ _ _ ok.stock ok.over_stock;
     passes = passes_free up from at stays;
-    stock = λ rapid x y. passes_after_cut job done end.move up x y ok.cutter_ok end.member
+    stock = λ rapid x y. passes_after_cut job done end.move up x y ok end.member
         (subst (λ p. job.floor ≤ℤ p.z) (sym end.here) at.floor) (subst (λ p. StaysOver p up) (sym end.here) stays);
     depth = λ feed. absurd (rapid_is_no_feed feed);
   }
@@ -203,99 +225,103 @@ module _ (job : JobFields) (part : List Tri) (ok : IsJob job) (under : IsUnder p
           → GoSafely job part done (at_height from job.clear) (if b then [] else over ∷ []) (at_height at job.clear)
       by true e = go_nowhere job part done (at_height from job.clear) (at_height at job.clear) (same e) (at_clear done from ranged)
       by false e = go_once job part done over
-          (over_safe done (at_height from job.clear) (at_height at job.clear) (record { from_ok = raised_range from job.clear ranged ok.clear_ok; to_ok = raised_range at job.clear at_ok ok.clear_ok }) ok.over_stock ok.over_stock)
+          (over_safe done (at_height from job.clear) (at_height at job.clear) (record { from_ok = raised_range from job.clear ranged ok.clear_ok; to_ok = raised_range at job.clear at_ok ok.clear_ok }) (clear_most job ok) (clear_most job ok))
           (at_clear _ at at_ok)
 
-  -- a feed straight down over a free place, from the top of the stock or from where a move ended, that is no longer than the greatest depth of cut
-  peck_safe : (done : List Move) (at : Pt3) (z low : ℤ) → IsFreePlace job part at → at.z ≤ℤ low → low ≤ℤ z → z ≤ℤ job.top
+  -- a feed straight down over a free place that ends no deeper than the greatest depth of cut under the height z: that of the top of the stock, or where a move ended
+  peck_safe : (done : List Move) (at : Pt3) (start z low : ℤ) → IsFreePlace job part at → at.z ≤ℤ low → low ≤ℤ z → z ≤ℤ start → start ≤ℤ over_stock job
       → ((pos 0) <ℤ job.max_cut → z ≤ℤ (low +ℤ job.max_cut)) → (z ≡ job.top) ⊎ IsEndOf done (at_height at z)
-      → IsSafeMove job part done (feed_to (at_height at z) (at_height at low))
-  peck_safe done at z low free over under high short start = record {
+      → IsSafeMove job part done (feed_to (at_height at start) (at_height at low))
+  peck_safe done at start z low free over under from high short begins = record {
     ranged = record {
-      from_ok = raised_range at z free.ranged (between (greatest_of job.unit) at.z job.top z free.ranged.z_ok ok.top_ok (through _ _ _ over under) high);
-      to_ok = raised_range at low free.ranged (between (greatest_of job.unit) at.z job.top low free.ranged.z_ok ok.top_ok over (through _ _ _ under high));
+      from_ok = raised_range at start free.ranged (between (greatest_of job.unit) at.z (over_stock job) start free.ranged.z_ok (over_ok job ok) (through _ _ _ over down) high);
+      to_ok = raised_range at low free.ranged (between (greatest_of job.unit) at.z (over_stock job) low free.ranged.z_ok (over_ok job ok) over (through _ _ _ down high));
     };
     floor_from = from_floor;
     floor_to = to_floor;
     passes = passes_free peck at free (record {
-      from = record { x_same = refl; y_same = refl; z_least = through _ _ _ over under };
+      from = record { x_same = refl; y_same = refl; z_least = through _ _ _ over down };
       to = record { x_same = refl; y_same = refl; z_least = over };
     });
     stock = λ rapid x y. absurd (feed_is_no_rapid rapid);
-    depth = λ feed tested j i there. limit_passes (column_x job i) (column_y job j) (short tested) start;
+    depth = λ feed tested j i there. limit_passes (column_x job i) (column_y job j) (short tested) begins;
   }
     where
       peck : Move
-      peck = feed_to (at_height at z) (at_height at low)
+      peck = feed_to (at_height at start) (at_height at low)
+
+      down : low ≤ℤ start
+      down = through _ _ _ under from
 
       to_floor : job.floor ≤ℤ low
       to_floor = through _ _ _ free.floor over
 
-      from_floor : job.floor ≤ℤ z
-      from_floor = through _ _ _ to_floor under
+      from_floor : job.floor ≤ℤ start
+      from_floor = through _ _ _ to_floor down
 
       limit_passes : (x y : ℤ) → z ≤ℤ (low +ℤ job.max_cut) → (z ≡ job.top) ⊎ IsEndOf done (at_height at z)
-          → PassesPoint job.cutter peck (point_at x y (cut_limit job (top_after job x y done)))
+          → SolidPassesPoint solid peck (point_at x y (cut_limit job (top_after job x y done)))
       limit_passes x y near (inl at_top) =
-          let stays = top_after_stays job x y done ok.stock in
+          let under_top = column_under done x y in
           let to : (job.top -ℤ job.max_cut) ≤ℤ low = reaches job.top low job.max_cut (subst (λ h. h ≤ℤ (low +ℤ job.max_cut)) at_top near) in
-          let to_low = limited_by job.floor job.top (top_after job x y done) job.max_cut low stays.high to_floor to in
-          let from_low = limited_by job.floor job.top (top_after job x y done) job.max_cut z stays.high from_floor (through _ _ _ to under) in
-          top_passes job.cutter peck (point_tri (point_at x y (cut_limit job (top_after job x y done)))) (all_low _ _ _ z from_low from_low from_low)
-          (all_low _ _ _ low to_low to_low to_low)
+          let to_low = limited_by job.floor job.top (top_after job x y done) job.max_cut low under_top to_floor to in
+          let from_low = limited_by job.floor job.top (top_after job x y done) job.max_cut start under_top from_floor (through _ _ _ to down) in
+          top_passes solid.cutter (lifted solid peck) (point_tri (point_at x y (cut_limit job (top_after job x y done)))) (stock_over _ start (all_low _ _ _ start from_low from_low from_low))
+          (stock_over _ low (all_low _ _ _ low to_low to_low to_low))
       limit_passes x y near (inr end) =
-          passes_limit_after_cut job done end.move peck x y ok.cutter_ok end.member (subst (λ p. job.floor ≤ℤ p.z) (sym end.here) from_floor) from_floor to_floor
+          passes_limit_after_cut job done end.move peck x y ok end.member (subst (λ p. job.floor ≤ℤ p.z) (sym end.here) (through _ _ _ to_floor under)) from_floor to_floor
           (subst (λ p. StaysOver (point_at p.x p.y (p.z -ℤ job.max_cut)) peck) (sym end.here) (record {
-            from = record { x_same = refl; y_same = refl; z_least = lowered z job.max_cut ok.max_cut_ok.low };
+            from = record { x_same = refl; y_same = refl; z_least = through _ _ _ (lowered z job.max_cut ok.max_cut_ok.low) from };
             to = record { x_same = refl; y_same = refl; z_least = reaches z low job.max_cut near };
           }))
 
   -- so do pecks that fit, one after the other
-  pecks_safe : (n : ℕ) (done : List Move) (at : Pt3) (z : ℤ) → IsFreePlace job part at → z ≤ℤ job.top → Fit n job.max_cut z at.z
-      → (z ≡ job.top) ⊎ IsEndOf done (at_height at z) → AreSafe job part done (pecks n job.max_cut at z)
-  pecks_safe zero done at z free high fit start = (peck_safe done at z at.z free (at_most_itself at.z) fit.0 high fit.1 start, tt)
-  pecks_safe (suc n) done at z free high fit start =
+  pecks_safe : (n : ℕ) (done : List Move) (at : Pt3) (start z : ℤ) → IsFreePlace job part at → z ≤ℤ start → start ≤ℤ over_stock job → Fit n job.max_cut z at.z
+      → (z ≡ job.top) ⊎ IsEndOf done (at_height at z) → AreSafe job part done (pecks n job.max_cut at start z)
+  pecks_safe zero done at start z free from high fit begins = (peck_safe done at start z at.z free (at_most_itself at.z) fit.0 from high fit.1 begins, tt)
+  pecks_safe (suc n) done at start z free from high fit begins =
       let down : (z -ℤ job.max_cut) ≤ℤ z = lowered z job.max_cut ok.max_cut_ok.low in (
-        peck_safe done at z (z -ℤ job.max_cut) free fit.0 down high (λ limited. regains z job.max_cut) start,
-        pecks_safe n _ at (z -ℤ job.max_cut) free (through _ _ _ down high) fit.1
-            (inr (last_of done [] (feed_to (at_height at z) (at_height at (z -ℤ job.max_cut))))),
+        peck_safe done at start z (z -ℤ job.max_cut) free fit.0 down from high (λ limited. regains z job.max_cut) begins,
+        pecks_safe n _ at (z -ℤ job.max_cut) (z -ℤ job.max_cut) free (at_most_itself (z -ℤ job.max_cut)) (through _ _ _ down (through _ _ _ from high)) fit.1
+            (inr (last_of done [] (feed_to (at_height at start) (at_height at (z -ℤ job.max_cut))))),
       )
 
   plunge_safe : (done : List Move) (at : Pt3) → IsFreePlace job part at → AreSafe job part done (plunge job at)
   plunge_safe done at free =
-      pecks_safe (peck_count job.max_cut (job.top -ℤ at.z)) done at job.top free (at_most_itself job.top) (pecks_fit job.max_cut job.top at.z ok.max_cut_ok.low free.top) (inl refl)
+      pecks_safe (peck_count job.max_cut (job.top -ℤ at.z)) done at (over_stock job) job.top free (top_least job ok) (at_most_itself (over_stock job))
+      (pecks_fit job.max_cut job.top at.z ok.max_cut_ok.low free.top) (inl refl)
 
   -- down
   down_goes : (done : List Move) (at : Pt3) → IsFreePlace job part at
       → GoSafely job part done (at_height at job.clear) (descend job at ++ plunge job at) at
-  down_goes done at free = by (int_lt job.top job.clear) refl
+  down_goes done at free = by (int_lt (over_stock job) job.clear) refl
     where
       down : Move
-      down = rapid_to (at_height at job.clear) (at_height at job.top)
+      down = rapid_to (at_height at job.clear) (at_height at (over_stock job))
 
-      same : int_lt job.top job.clear ≡ false → at_height at job.top ≡ at_height at job.clear
-      same high = ap (λ z. point_at at.x at.y z) (equal job.top job.clear high ok.over_stock)
+      same : int_lt (over_stock job) job.clear ≡ false → at_height at (over_stock job) ≡ at_height at job.clear
+      same high = ap (λ z. point_at at.x at.y z) (equal (over_stock job) job.clear high (clear_most job ok))
         where
           equal : (a b : ℤ) → int_lt a b ≡ false → a ≤ℤ b → a ≡ b
           equal a b e h = omega (e, h, arith, ints)
 
-      led : Connect (at_height at job.top) (plunge job at) at
-      led = pecks_connect (peck_count job.max_cut (job.top -ℤ at.z)) job.max_cut at job.top
+      led : Connect (at_height at (over_stock job)) (plunge job at) at
+      led = pecks_connect (peck_count job.max_cut (job.top -ℤ at.z)) job.max_cut at (over_stock job) job.top
 
       end_within : (before first : List Move) → IsEndOf (before ++ (first ++ plunge job at)) at
       end_within before first =
-          let end : IsEndOf (plunge job at) at = pecks_end (peck_count job.max_cut (job.top -ℤ at.z)) job.max_cut at job.top in
+          let end : IsEndOf (plunge job at) at = pecks_end (peck_count job.max_cut (job.top -ℤ at.z)) job.max_cut at (over_stock job) job.top in
           record {
             move = end.move;
             member = Contains-append_right before (first ++ plunge job at) end.move (Contains-append_right first (plunge job at) end.move end.member);
             here = end.here;
           }
 
-      by : (b : Bool) → int_lt job.top job.clear ≡ b
+      by : (b : Bool) → int_lt (over_stock job) job.clear ≡ b
           → GoSafely job part done (at_height at job.clear) ((if b then down ∷ [] else []) ++ plunge job at) at
       by true low = record {
         safe = (
-          over_safe done (at_height at job.clear) (at_height at job.top) (record { from_ok = raised_range at job.clear free.ranged ok.clear_ok; to_ok = raised_range at job.top free.ranged ok.top_ok }) ok.over_stock (at_most_itself job.top),
+          over_safe done (at_height at job.clear) (at_height at (over_stock job)) (record { from_ok = raised_range at job.clear free.ranged ok.clear_ok; to_ok = raised_range at (over_stock job) free.ranged (over_ok job ok) }) (clear_most job ok) (at_most_itself (over_stock job)),
           plunge_safe (done ++ down ∷ []) at free,
         );
         connect = (refl, led);

@@ -1,9 +1,10 @@
 -- What a job gives is in the range that calls take, in each unit, and it is stored as it is.
-use Rattle.std.proofs.Common.{◌≡◌, ℕ, Bool, true, false, refl, sym, ap, ◌∙◌, to_z, of_z, w32, arith}
-use Rattle.std.specs.Prelude.{◌≢◌, int_lt, ℤ, pos, ◌<ℤ◌, ◌≤ℤ◌}
-use Rattle.std.proofs.lemmas.Int.{ints}
+use Rattle.std.proofs.Common.{◌≡◌, ℕ, ◌<◌, Bool, true, false, refl, sym, ap, ◌∙◌, FitsSigned, to_z, of_z, w32, arith}
+use Rattle.std.specs.Prelude.{◌≢◌, int_lt, nat_abs, ℤ, pos, ◌<ℤ◌, ◌≤ℤ◌}
+use Rattle.std.proofs.lemmas.Int.{ints, fits_signed_from_abs}
 use Rattle.mill_base.specs.Numbers.{Within}
 use Rattle.mill_base.specs.Units.{greatest_of}
+use Rattle.mill_base.specs.declared.limits.TheConstants.{MAX_COORDINATE}
 use Rattle.mill_base.specs.declared.unit.Unit.{Unit}
 use Rattle.mill_base.proofs.Machine.{stored}
 use Rattle.mill_base.proofs.Ranges.{within_of_unit, coordinate}
@@ -18,6 +19,13 @@ unit_coordinate unit z h = coordinate z (within_of_unit unit z h)
 -- a number between two that are in a range
 pub between : (m : ℕ) (a b z : ℤ) → Within m a → Within m b → a ≤ℤ z → z ≤ℤ b → Within m z
 between m a b z a_ok b_ok low high = let p = a_ok.within in let q = b_ok.within in record { within = omega (p, q, low, high, arith, ints) }
+
+-- a number in range fits its type
+pub fits_within : (z : ℤ) → Within MAX_COORDINATE z → FitsSigned w32 z
+fits_within z h = fits_signed_from_abs w32 z (small z h)
+  where
+    small : (z : ℤ) → Within MAX_COORDINATE z → nat_abs z < 2147483648
+    small z h = let k = h.within in omega (k, arith)
 
 -- the greatest depth of cut, and what its test says
 pub limit_within : (job : JobFields) → IsJob job → Within (greatest_of job.unit) job.max_cut

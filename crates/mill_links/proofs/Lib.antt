@@ -1,6 +1,7 @@
 pub mod Kept
 mod Ways
 mod Points
+mod Overs
 mod Pecks
 pub mod Joining
 mod Plunging

@@ -79,17 +79,17 @@ pecks_fit depth top low least under =
         (λ some. none_left depth (top -ℤ low) e some least (not_under top low under))
 
 -- they lead from their start to the place
-pub pecks_connect : (n : ℕ) (depth : ℤ) (at : Pt3) (z : ℤ) → Connect (at_height at z) (pecks n depth at z) at
-pecks_connect zero depth at z = (refl, refl)
-pecks_connect (suc n) depth at z = (refl, pecks_connect n depth at (z -ℤ depth))
+pub pecks_connect : (n : ℕ) (depth : ℤ) (at : Pt3) (start z : ℤ) → Connect (at_height at start) (pecks n depth at start z) at
+pecks_connect zero depth at start z = (refl, refl)
+pecks_connect (suc n) depth at start z = (refl, pecks_connect n depth at (z -ℤ depth) (z -ℤ depth))
 
-pub pecks_end : (n : ℕ) (depth : ℤ) (at : Pt3) (z : ℤ) → IsEndOf (pecks n depth at z) at
-pecks_end zero depth at z = record { move = feed_to (at_height at z) at; member = (0, omega arith, refl); here = refl }
-pecks_end (suc n) depth at z =
-    let end : IsEndOf (pecks n depth at (z -ℤ depth)) at = pecks_end n depth at (z -ℤ depth) in
+pub pecks_end : (n : ℕ) (depth : ℤ) (at : Pt3) (start z : ℤ) → IsEndOf (pecks n depth at start z) at
+pecks_end zero depth at start z = record { move = feed_to (at_height at start) at; member = (0, omega arith, refl); here = refl }
+pecks_end (suc n) depth at start z =
+    let end : IsEndOf (pecks n depth at (z -ℤ depth) (z -ℤ depth)) at = pecks_end n depth at (z -ℤ depth) (z -ℤ depth) in
     record {
       move = end.move;
-      member = Contains-append_right (feed_to (at_height at z) (at_height at (z -ℤ depth)) ∷ []) (pecks n depth at (z -ℤ depth)) end.move end.member;
+      member = Contains-append_right (feed_to (at_height at start) (at_height at (z -ℤ depth)) ∷ []) (pecks n depth at (z -ℤ depth) (z -ℤ depth)) end.move end.member;
       here = end.here;
     }
 

@@ -11,10 +11,11 @@ use Rattle.mill_base.specs.declared.points.Pt3.{Pt3}
 use Rattle.mill_base.proofs.Ranges.{within_of_unit}
 use Rattle.mill_job.specs.Jobs.{IsJob}
 use Rattle.mill_job.specs.declared.fields.JobFields.{JobFields}
-use Rattle.mill_links.specs.Links.{is_same_point, at_height, climb, cross, descend, detour, feed_to, is_over_place, peck_count, pecks, plunge, rapid_to}
+use Rattle.mill_links.specs.Links.{is_same_point, at_height, climb, cross, descend, detour, feed_to, is_over_place, over_stock, peck_count, pecks, plunge, rapid_to}
 use Rattle.mill_links.specs.declared.visit.Visit.{Visit}
 use Rattle.mill_links.specs.inner.Linking.{link_moves}
 use Rattle.mill_links.proofs.Kept.{between}
+use Rattle.mill_links.proofs.Overs.{over_ok}
 use Rattle.mill_links.proofs.Pecks.{Fit, no_pecks, pecks_fit}
 
 none : MovesInRange []
@@ -31,20 +32,21 @@ at_level : (p : Pt3) (z : ℤ) → IsInRange p → Within MAX_COORDINATE z → I
 at_level p z ok high = record { x_ok = ok.x_ok; y_ok = ok.y_ok; z_ok = high }
 
 -- pecks between two heights in range
-pecks_ranged : (n : ℕ) (depth : ℤ) (at : Pt3) (z : ℤ) → (pos 0) ≤ℤ depth → IsInRange at → Within MAX_COORDINATE z → Fit n depth z at.z → MovesInRange (pecks n depth at z)
-pecks_ranged zero depth at z least ok high fit = one (feed_to (at_height at z) at) (record { from_ok = at_level at z ok high; to_ok = ok })
-pecks_ranged (suc n) depth at z least ok high fit =
+pecks_ranged : (n : ℕ) (depth : ℤ) (at : Pt3) (start z : ℤ) → (pos 0) ≤ℤ depth → IsInRange at → Within MAX_COORDINATE start → Within MAX_COORDINATE z → Fit n depth z at.z
+    → MovesInRange (pecks n depth at start z)
+pecks_ranged zero depth at start z least ok from high fit = one (feed_to (at_height at start) at) (record { from_ok = at_level at start ok from; to_ok = ok })
+pecks_ranged (suc n) depth at start z least ok from high fit =
     let low : Within MAX_COORDINATE (z -ℤ depth) = between MAX_COORDINATE at.z z (z -ℤ depth) ok.z_ok high fit.0 (under z depth least) in
-    both (feed_to (at_height at z) (at_height at (z -ℤ depth)) ∷ []) (pecks n depth at (z -ℤ depth))
-    (one (feed_to (at_height at z) (at_height at (z -ℤ depth))) (record { from_ok = at_level at z ok high; to_ok = at_level at (z -ℤ depth) ok low }))
-    (pecks_ranged n depth at (z -ℤ depth) least ok low fit.1)
+    both (feed_to (at_height at start) (at_height at (z -ℤ depth)) ∷ []) (pecks n depth at (z -ℤ depth) (z -ℤ depth))
+    (one (feed_to (at_height at start) (at_height at (z -ℤ depth))) (record { from_ok = at_level at start ok from; to_ok = at_level at (z -ℤ depth) ok low }))
+    (pecks_ranged n depth at (z -ℤ depth) (z -ℤ depth) least ok low low fit.1)
   where
     under : (z depth : ℤ) → (pos 0) ≤ℤ depth → (z -ℤ depth) ≤ℤ z
     under z depth least = omega (least, arith, ints)
 
 module _ (job : JobFields) (ok : IsJob job) where
-  top_ok : Within MAX_COORDINATE job.top
-  top_ok = within_of_unit job.unit job.top ok.top_ok
+  low_ok : Within MAX_COORDINATE (over_stock job)
+  low_ok = within_of_unit job.unit (over_stock job) (over_ok job ok)
 
   clear_ok : Within MAX_COORDINATE job.clear
   clear_ok = within_of_unit job.unit job.clear ok.clear_ok
@@ -66,12 +68,12 @@ module _ (job : JobFields) (ok : IsJob job) where
           (record { from_ok = at_level from job.clear from_ok clear_ok; to_ok = at_level at job.clear at_ok clear_ok })
 
   descend_ranged : (at : Pt3) → IsInRange at → MovesInRange (descend job at)
-  descend_ranged at at_ok = by (int_lt job.top job.clear)
+  descend_ranged at at_ok = by (int_lt (over_stock job) job.clear)
     where
-      by : (t : Bool) → MovesInRange (if t then rapid_to (at_height at job.clear) (at_height at job.top) ∷ [] else [])
+      by : (t : Bool) → MovesInRange (if t then rapid_to (at_height at job.clear) (at_height at (over_stock job)) ∷ [] else [])
       by true =
-          one (rapid_to (at_height at job.clear) (at_height at job.top))
-          (record { from_ok = at_level at job.clear at_ok clear_ok; to_ok = at_level at job.top at_ok top_ok })
+          one (rapid_to (at_height at job.clear) (at_height at (over_stock job)))
+          (record { from_ok = at_level at job.clear at_ok clear_ok; to_ok = at_level at (over_stock job) at_ok low_ok })
       by false = none
 
   plunge_ranged : (at : Pt3) → IsInRange at → MovesInRange (plunge job at)
@@ -85,10 +87,10 @@ module _ (job : JobFields) (ok : IsJob job) where
 
       by : (t : Bool) → int_lt job.top at.z ≡ t → MovesInRange (plunge job at)
       by true e =
-          subst (λ n. MovesInRange (pecks n job.max_cut at job.top)) (sym (no_pecks job.max_cut (job.top -ℤ at.z) (inr (not_under job.top at.z e))))
-          (one (feed_to (at_height at job.top) at) (record { from_ok = at_level at job.top at_ok top_ok; to_ok = at_ok }))
+          subst (λ n. MovesInRange (pecks n job.max_cut at (over_stock job) job.top)) (sym (no_pecks job.max_cut (job.top -ℤ at.z) (inr (not_under job.top at.z e))))
+          (one (feed_to (at_height at (over_stock job)) at) (record { from_ok = at_level at (over_stock job) at_ok low_ok; to_ok = at_ok }))
       by false e =
-          pecks_ranged (peck_count job.max_cut (job.top -ℤ at.z)) job.max_cut at job.top ok.max_cut_ok.low at_ok top_ok
+          pecks_ranged (peck_count job.max_cut (job.top -ℤ at.z)) job.max_cut at (over_stock job) job.top ok.max_cut_ok.low at_ok low_ok (within_of_unit job.unit job.top ok.top_ok)
           (pecks_fit job.max_cut job.top at.z ok.max_cut_ok.low (under job.top at.z e))
 
   detour_ranged : (from at : Pt3) → IsInRange from → IsInRange at → MovesInRange (detour job from at)

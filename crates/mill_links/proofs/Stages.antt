@@ -7,7 +7,7 @@ use Rattle.std.proofs.lemmas.List.{append-nil}
 use Rattle.mill_base.specs.declared.motion.Move.{Move}
 use Rattle.mill_base.specs.declared.points.Pt3.{Pt3}
 use Rattle.mill_job.specs.declared.fields.JobFields.{JobFields}
-use Rattle.mill_links.specs.Links.{at_height, climb, cross, descend, is_over_place, is_same_point, rapid_to}
+use Rattle.mill_links.specs.Links.{at_height, climb, cross, descend, is_over_place, is_same_point, over_stock, rapid_to}
 use Rattle.mill_links.proofs.Points.{same_number}
 
 -- with no moves more a list is as it was
@@ -27,8 +27,8 @@ not_under a b over = by (int_lt a b) refl
 pub no_climb : (job : JobFields) (from : Pt3) → job.clear ≤ℤ from.z → climb job from ≡ []
 no_climb job from high = ap (λ (t : Bool). if t then rapid_to from (at_height from job.clear) ∷ [] else []) (not_under from.z job.clear high)
 
-pub no_descend : (job : JobFields) (at : Pt3) → job.clear ≤ℤ job.top → descend job at ≡ []
-no_descend job at high = ap (λ (t : Bool). if t then rapid_to (at_height at job.clear) (at_height at job.top) ∷ [] else []) (not_under job.top job.clear high)
+pub no_descend : (job : JobFields) (at : Pt3) → job.clear ≤ℤ over_stock job → descend job at ≡ []
+no_descend job at high = ap (λ (t : Bool). if t then rapid_to (at_height at job.clear) (at_height at (over_stock job)) ∷ [] else []) (not_under (over_stock job) job.clear high)
 
 -- at one height two places are the same where one is over the other
 same_over : (p q : Pt3) (z : ℤ) → is_same_point (at_height p z) (at_height q z) ≡ is_over_place p q

@@ -1,5 +1,5 @@
 -- The moves that link the place where the cutter is to the next visit.
-use Rattle.std.specs.Prelude.{◌≡◌, ◌≢◌, ◌⊎◌, ◌↔◌, ℕ, zero, suc, ◌-◌, ◌/◌, Bool, IsTrue, ◌&&◌, if◌then◌else◌, ℤ, pos, nat_abs, ◌-ℤ◌, ◌*ℤ◌, ◌≤ℤ◌, int_lt, List, [], ◌∷◌, ◌++◌}
+use Rattle.std.specs.Prelude.{◌≡◌, ◌≢◌, ◌⊎◌, ◌↔◌, ℕ, zero, suc, ◌-◌, ◌/◌, Bool, IsTrue, ◌&&◌, if◌then◌else◌, ℤ, pos, nat_abs, ◌+ℤ◌, ◌-ℤ◌, ◌*ℤ◌, ◌≤ℤ◌, int_lt, List, [], ◌∷◌, ◌++◌}
 use Rattle.std.specs.Ordering.{int_eq}
 use Rattle.mill_base.specs.Points.{point_at}
 use Rattle.mill_base.specs.declared.points.Pt3.{Pt3}
@@ -12,6 +12,7 @@ use Rattle.mill_dexel.specs.Tops.{ClearsColumns, IsTested}
 use Rattle.mill_gouge.specs.Gouges.{ToolPassesPart}
 use Rattle.mill_job.specs.Columns.{home}
 use Rattle.mill_job.specs.Jobs.{tool_of}
+use Rattle.mill_margin.specs.Margins.{offset_of}
 use Rattle.mill_job.specs.declared.fields.JobFields.{JobFields}
 use Rattle.mill_links.specs.declared.visit.Visit.{Visit}
 
@@ -52,22 +53,26 @@ is_over_place p q = int_eq p.x q.x && int_eq p.y q.y
 abbrev pub cross : JobFields → Pt3 → Pt3 → List Move
 cross job from at = if is_over_place from at then [] else rapid_to (at_height from job.clear) (at_height at job.clear) ∷ []
 
--- from the clear height down to the top of the stock, where that is lower
-abbrev pub descend : JobFields → Pt3 → List Move
-descend job at = if int_lt job.top job.clear then rapid_to (at_height at job.clear) (at_height at job.top) ∷ [] else []
+-- the lowest height of the tool's tip at which nothing of the cutter, with the slack around it, is under the top of the stock
+unfoldable pub over_stock : JobFields → ℤ
+over_stock job = job.top +ℤ offset_of job.cutter job.slack
 
--- feeds straight down to a place, from the height z over it: so many go down by the depth each (pecks), and one more goes the rest of the way
-abbrev pub pecks : ℕ → ℤ → Pt3 → ℤ → List Move
-pecks zero depth at z = feed_to (at_height at z) at ∷ []
-pecks (suc n) depth at z = feed_to (at_height at z) (at_height at (z -ℤ depth)) ∷ pecks n depth at (z -ℤ depth)
+-- from the clear height down to there, where that is lower
+abbrev pub descend : JobFields → Pt3 → List Move
+descend job at = if int_lt (over_stock job) job.clear then rapid_to (at_height at job.clear) (at_height at (over_stock job)) ∷ [] else []
+
+-- feeds straight down to a place, the first from the height start over it: so many end the depth under each other, the first of them the depth under the height z (pecks), and one more goes the rest of the way
+abbrev pub pecks : ℕ → ℤ → Pt3 → ℤ → ℤ → List Move
+pecks zero depth at start z = feed_to (at_height at start) at ∷ []
+pecks (suc n) depth at start z = feed_to (at_height at start) (at_height at (z -ℤ depth)) ∷ pecks n depth at (z -ℤ depth) (z -ℤ depth)
 
 -- how many pecks of this depth end over a place so far under their start; none where the depth isn't limited, or the place doesn't lie under the start
 abbrev pub peck_count : ℤ → ℤ → ℕ
 peck_count depth height = if int_lt (pos 0) depth && int_lt (pos 0) height then (nat_abs height - 1) / nat_abs depth else 0
 
--- from the top of the stock down to the place, by as many pecks of the job's greatest depth of cut as end over it, and a feed for the rest
+-- from there down to the place, by as many pecks of the job's greatest depth of cut, counted from the top of the stock, as end over it, and a feed for the rest
 abbrev pub plunge : JobFields → Pt3 → List Move
-plunge job at = pecks (peck_count job.max_cut (job.top -ℤ at.z)) job.max_cut at job.top
+plunge job at = pecks (peck_count job.max_cut (job.top -ℤ at.z)) job.max_cut at (over_stock job) job.top
 
 -- the way round over everything: up, across and down
 abbrev pub detour : JobFields → Pt3 → Pt3 → List Move

@@ -13,8 +13,9 @@ use Rattle.mill_dexel.specs.Tops.{ClearsColumns, top_after}
 use Rattle.mill_gouge.specs.Gouges.{ToolPassesPart}
 use Rattle.mill_job.specs.Columns.{home}
 use Rattle.mill_job.specs.Jobs.{IsJob, tool_of}
+use Rattle.mill_job.specs.Solids.{stock_solid_of}
 use Rattle.mill_job.specs.declared.fields.JobFields.{JobFields}
-use Rattle.mill_sweep.specs.Halving.{PassesPoint}
+use Rattle.mill_sweep.specs.Solids.{SolidPassesPoint}
 use Rattle.mill_links.specs.Links.{IsLink, way_home}
 use Rattle.mill_links.specs.Tours.{IsTour, last_place}
 use Rattle.mill_links.specs.declared.visit.Visit.{Visit}
@@ -25,7 +26,7 @@ pub record IsSafeMove (job : JobFields) (part : List Tri) (done : List Move) (m 
   pub floor_from : job.floor ≤ℤ m.from.z
   pub floor_to : job.floor ≤ℤ m.to.z
   pub passes : ToolPassesPart (tool_of job) m part
-  pub stock : m.kind ≡ Rapid → (x y : ℤ) → PassesPoint job.cutter m (point_at x y (top_after job x y done))
+  pub stock : m.kind ≡ Rapid → (x y : ℤ) → SolidPassesPoint (stock_solid_of job) m (point_at x y (top_after job x y done))
   pub depth : m.kind ≡ Feed → ClearsColumns job done m
 
 -- so are these moves, each after those before it

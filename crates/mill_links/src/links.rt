@@ -3,7 +3,12 @@ ghost use Rattle.mill_base.specs.Ranges.{IsInRange, MovesInRange};
 ghost use Rattle.mill_base.specs.declared.motion.Move.{Move as OneMove};
 ghost use Rattle.mill_base.specs.declared.points.Tri.{Tri};
 ghost use Rattle.mill_dexel.specs.Rows.{IsRowOf};
-ghost use Rattle.mill_links.specs.Links.{AddsLink, FollowStock, IsClear, IsNearBy, SaysClear, at_height as at_height_of, climb as climb_of, cross as cross_of, descend as descend_of, detour as detour_of, distance, feed_to as feed_of, peck_count as peck_count_of, plunge as plunge_of, rapid_to as rapid_of, way_home};
+ghost use Rattle.mill_links.specs.Links.{AddsLink, FollowStock, IsClear, IsNearBy, SaysClear};
+ghost use Rattle.mill_links.specs.Links.{at_height as at_height_of, climb as climb_of};
+ghost use Rattle.mill_links.specs.Links.{cross as cross_of, descend as descend_of};
+ghost use Rattle.mill_links.specs.Links.{detour as detour_of, distance, feed_to as feed_of};
+ghost use Rattle.mill_links.specs.Links.{over_stock as over_stock_of, peck_count as peck_count_of};
+ghost use Rattle.mill_links.specs.Links.{plunge as plunge_of, rapid_to as rapid_of, way_home};
 ghost use Rattle.mill_links.specs.inner.Linking.{GoesOn, SaysStraight, link_moves};
 
 use crate::visit::Visit;
@@ -16,11 +21,12 @@ use mill_part::SortedPart;
 /// Adds the moves that link the place `from`, where the cutter is, to the visit.
 ///
 /// There are none where the cutter is at the visit already. A visit that is at most twice its step
-/// away in x and in y is fed to straight, where on that feed the cutter, and its holder if it has one,
-/// passes each triangle of the part, and no column of the stock is cut deeper than the job allows.
-/// Whether the holder passes the stock isn't looked at. To each other visit the cutter goes round: up to
-/// the clear height, across, down to the top of the stock, and then by feeds straight down to the visit,
-/// none of which is longer than the job's greatest depth of cut.
+/// away in x and in y is fed to straight, where on that feed the cutter, and its holder if it has
+/// one, passes each triangle of the part, and no column of the stock is cut deeper than the job
+/// allows. Whether the holder passes the stock isn't looked at. To each other visit the cutter goes
+/// round: up to the clear height, across, down to where the cutter is just over the stock, and then
+/// by feeds straight down to the visit, none of which is longer than the job's greatest depth of
+/// cut.
 ///
 /// Where the job limits the depth of cut, the rows are to be those of the stock as the moves so far
 /// leave it, and then they are as the added moves leave it. Where it doesn't, they aren't looked at,
@@ -237,7 +243,7 @@ fn go_home(job: &Job, from: Pt3, out: &mut Vec<Move>) -> Result<(), WantOfMemory
 }
 
 /// Adds the first moves of the way round over everything to a place, and where the memory suffices all
-/// of them: up, across, down to the top of the stock, and from there to the place.
+/// of them: up, across, down to just over the stock, and from there to the place.
 fn go_round(job: &Job, from: Pt3, at: Pt3, out: &mut Vec<Move>) -> Result<(), WantOfMemory>
     requires { IsInRange at }
     ensures ok { OnOk result (out.new.items ≡ out.old.items ++ detour_of job.now.fields from at) }
@@ -273,50 +279,62 @@ fn cross(job: &Job, from: Pt3, at: Pt3, out: &mut Vec<Move>) -> Result<(), WantO
     add(rapid_to(start, end), out)
 }
 
-/// Adds the rapid down from the clear height to the top of the stock, where that is lower.
+/// The lowest height of the tool's tip at which nothing of the cutter, with the slack around it, is
+/// under the top of the stock.
+fn over_stock(job: &Job) -> i32
+    ensures value { result ≡ over_stock_of job.now.fields }
+    ensures least { job.now.fields.top ≤ℤ result }
+    ensures most { result ≤ℤ job.now.fields.clear }
+{
+    job.fields.top - job.outer().lift()
+}
+
+/// Adds the rapid down from the clear height to where the tool is just over the stock, where that
+/// is lower.
 fn descend(job: &Job, at: Pt3, out: &mut Vec<Move>) -> Result<(), WantOfMemory>
     ensures ok { OnOk result (out.new.items ≡ out.old.items ++ descend_of job.now.fields at) }
     ensures err { OnErr result (out.new.items ≡ out.old.items) }
 {
-    if job.fields.top >= job.fields.clear {
+    let low = over_stock(job);
+    if low >= job.fields.clear {
         return Ok(());
     }
     add(
-        rapid_to(
-            at_height(at, job.fields.clear),
-            at_height(at, job.fields.top),
-        ),
+        rapid_to(at_height(at, job.fields.clear), at_height(at, low)),
         out,
     )
 }
 
-/// Adds the first feeds of those from the top of the stock straight down to a place, and where the memory
-/// suffices all of them. Each but the last goes down by the job's greatest depth of cut.
+/// Adds the first feeds of those from over the stock straight down to a place, and where the memory
+/// suffices all of them. Each goes no deeper under the top of the stock, or under the one before
+/// it, than the job's greatest depth of cut.
 fn plunge(job: &Job, at: Pt3, out: &mut Vec<Move>) -> Result<(), WantOfMemory>
     requires { IsInRange at }
     ensures ok { OnOk result (out.new.items ≡ out.old.items ++ plunge_of job.now.fields at) }
     ensures on { GoesOn out.old.items out.new.items }
 {
-    let mut z = job.fields.top;
+    let mut start = over_stock(job);
+    let mut low = job.fields.top;
     for _ in 0..peck_count(job, at) {
-        let low = z - job.fields.max_cut;
-        add(feed_to(at_height(at, z), at_height(at, low)), out)?;
-        z = low;
+        low -= job.fields.max_cut;
+        add(feed_to(at_height(at, start), at_height(at, low)), out)?;
+        start = low;
     }
-    add(feed_to(at_height(at, z), at), out)
+    add(feed_to(at_height(at, start), at), out)
 }
 
-/// How many feeds down to a place from the top of the stock go down by the job's greatest depth of cut,
-/// and end over the place.
+/// How many feeds down to a place end over it, where each ends the job's greatest depth of cut
+/// under the one before it, and the first so far under the top of the stock.
 fn peck_count(job: &Job, at: Pt3) -> u32
     requires { IsInRange at }
     ensures value { result ≡ peck_count_of job.now.fields.max_cut (job.now.fields.top -ℤ at.z) }
     ensures under { 0 < result → at.z <ℤ job.now.fields.top }
 {
-    if job.fields.max_cut == 0 || at.z >= job.fields.top {
+    let top = job.fields.top;
+    if job.fields.max_cut == 0 || at.z >= top {
         return 0;
     }
-    (job.fields.top.abs_diff(at.z) - 1) / job.fields.max_cut.unsigned_abs()
+    (top.abs_diff(at.z) - 1) / job.fields.max_cut.unsigned_abs()
 }
 
 /// Adds one move.

@@ -16,7 +16,7 @@ use Rattle.mill_job.specs.Columns.{home}
 use Rattle.mill_job.specs.Jobs.{tool_of}
 use Rattle.mill_job.specs.declared.fields.JobFields.{JobFields}
 use Rattle.mill_level.specs.Waterlines.{Outline}
-use Rattle.mill_links.specs.Links.{is_same_point, IsLink, climb, cross, descend, pecks, plunge, way_home}
+use Rattle.mill_links.specs.Links.{is_same_point, IsLink, climb, cross, descend, over_stock, pecks, plunge, way_home}
 use Rattle.mill_links.specs.Tours.{AreLinks, IsTour, last_place}
 use Rattle.mill_links.specs.declared.visit.Visit.{Visit}
 use Rattle.mill_paths.specs.Lattices.{finish_lattice, rough_lattice, zigzag_of}
@@ -185,14 +185,14 @@ module _ (job : JobFields) (part : List Tri) where
       at_most_one (is_same_visit v w) (length link) (subst (λ (ms : List Move). 0 < length ms) (sym straight.feed) (omega arith))
   link_counts done v w link step (inr (inr round)) =
       at_most_one (is_same_visit v w) (length link)
-      (subst (λ (ms : List Move). 0 < length ms) (sym round.round) (some (climb job v.at ++ cross job v.at w.at ++ descend job w.at) (plunge job w.at) (pecks_some _ job.max_cut w.at job.top)))
+      (subst (λ (ms : List Move). 0 < length ms) (sym round.round) (some (climb job v.at ++ cross job v.at w.at ++ descend job w.at) (plunge job w.at) (pecks_some _ job.max_cut w.at (over_stock job) job.top)))
     where
       some : (ms ns : List Move) → 0 < length ns → 0 < length (ms ++ ns)
       some ms ns h = omega (h, length-append ms ns, arith)
 
-      pecks_some : (n : ℕ) (depth : ℤ) (at : Pt3) (z : ℤ) → 0 < length (pecks n depth at z)
-      pecks_some zero depth at z = omega arith
-      pecks_some (suc n) depth at z = omega arith
+      pecks_some : (n : ℕ) (depth : ℤ) (at : Pt3) (start z : ℤ) → 0 < length (pecks n depth at start z)
+      pecks_some zero depth at start z = omega arith
+      pecks_some (suc n) depth at start z = omega arith
 
   -- so a tour through such visits has a move for each that differs from the one before it
   counted_after : (done : List Move) (v : Visit) (vs more : List Visit) (links : List (List Move)) → AreMovesAfter v vs → AreLinks job part done v.at (vs ++ more) links

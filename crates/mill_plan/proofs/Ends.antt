@@ -10,7 +10,7 @@ use Rattle.mill_base.specs.declared.points.Tri.{Tri}
 use Rattle.mill_job.specs.Columns.{home}
 use Rattle.mill_job.specs.Jobs.{IsJob}
 use Rattle.mill_job.specs.declared.fields.JobFields.{JobFields}
-use Rattle.mill_links.specs.Links.{IsLink, at_height, climb, cross, descend, feed_to, peck_count, pecks, plunge, way_home}
+use Rattle.mill_links.specs.Links.{IsLink, at_height, climb, cross, descend, feed_to, over_stock, peck_count, pecks, plunge, way_home}
 use Rattle.mill_links.specs.Safety.{IsEndOf}
 use Rattle.mill_links.specs.Tours.{AreLinks, last_place}
 use Rattle.mill_links.specs.declared.visit.Visit.{Visit}
@@ -29,10 +29,10 @@ ends_once : (m : Move) → IsEndOf (m ∷ []) m.to
 ends_once m = record { move = m; member = (0, omega arith, refl); here = refl }
 
 -- the last of the pecks down to a place ends there
-pecks_end : (n : ℕ) (depth : ℤ) (at : Pt3) (z : ℤ) → IsEndOf (pecks n depth at z) at
-pecks_end zero depth at z = ends_once (feed_to (at_height at z) at)
-pecks_end (suc n) depth at z =
-    ends_right (feed_to (at_height at z) (at_height at (z -ℤ depth)) ∷ []) (pecks n depth at (z -ℤ depth)) at (pecks_end n depth at (z -ℤ depth))
+pecks_end : (n : ℕ) (depth : ℤ) (at : Pt3) (start z : ℤ) → IsEndOf (pecks n depth at start z) at
+pecks_end zero depth at start z = ends_once (feed_to (at_height at start) at)
+pecks_end (suc n) depth at start z =
+    ends_right (feed_to (at_height at start) (at_height at (z -ℤ depth)) ∷ []) (pecks n depth at (z -ℤ depth) (z -ℤ depth)) at (pecks_end n depth at (z -ℤ depth) (z -ℤ depth))
 
 -- the place is where the moves start, or where one of them ends
 abbrev IsOnTheWay : Pt3 → List Move → Pt3 → Type 0
@@ -46,7 +46,7 @@ module _ (job : JobFields) (part : List Tri) where
   link_ends done from visit moves (inr (inr round)) =
       inr (subst (λ (ms : List Move). IsEndOf ms visit.at) (sym round.round)
       (ends_right (climb job from ++ cross job from visit.at ++ descend job visit.at) (plunge job visit.at) visit.at
-      (pecks_end (peck_count job.max_cut (job.top -ℤ visit.at.z)) job.max_cut visit.at job.top)))
+      (pecks_end (peck_count job.max_cut (job.top -ℤ visit.at.z)) job.max_cut visit.at (over_stock job) job.top)))
 
   -- what is on the way from the first visit is so from the start
   on_the_way : (from mid : Pt3) (first rest : List Move) (p : Pt3) → IsOnTheWay from first mid → IsOnTheWay mid rest p → IsOnTheWay from (first ++ rest) p

@@ -12,9 +12,10 @@ use Rattle.mill_base.specs.declared.points.Pt3.{Pt3}
 use Rattle.mill_base.specs.declared.points.Tri.{Tri}
 use Rattle.mill_base.specs.Solids.{Solid}
 use Rattle.mill_job.specs.Columns.{IsColumn, column_x, column_y}
+use Rattle.mill_job.specs.Jobs.{IsJob, part_tool_of}
+use Rattle.mill_job.specs.Solids.{held_with, stock_solid_of}
 use Rattle.mill_job.specs.declared.fields.JobFields.{JobFields}
-use Rattle.mill_gouge.specs.Gouges.{PassesPart}
-use Rattle.mill_sweep.specs.Halving.{PassesPoint}
+use Rattle.mill_gouge.specs.Gouges.{PassesPart, ToolPassesPart}
 use Rattle.mill_sweep.specs.Solids.{SolidPassesPoint}
 use Rattle.mill_sweep.specs.declared.leaf.Leaf.{Leaf}
 use Rattle.mill_dexel.specs.Tops.{ClearsColumns, HolderClearsColumns, IsTested, tested_point, top_point}
@@ -25,6 +26,7 @@ use Rattle.mill_verify.specs.Verdicts.{FailsHolder, FailsStock, IsRejection}
 use Rattle.mill_verify.specs.declared.verdict.Reason.{Reason}
 use Rattle.mill_verify.specs.declared.verdict.Reason.TheVariants.{Floor, Gouge, Holder, Rapid as RapidCut, Cut, HolderStock, Left}
 use Rattle.mill_plan.specs.Laws.{IsOfStock}
+use Rattle.mill_plan.proofs.Nested.{part_tool_passes}
 
 -- move k passes each test that comes before the holder's against the stock
 pub record PassesFirst (job : JobFields) (part : List Tri) (moves : List Move) (k : ℕ) : Type 0 where
@@ -49,28 +51,29 @@ module _ (job : JobFields) (part : List Tri) where
   -- a safe move passes each column, if it is tested
   columns : (done : List Move) (m : Move) (kind : Kind) → m.kind ≡ kind → IsSafeMove job part done m → ClearsColumns job done m
   columns done m Rapid e safe =
-      subst (λ (v : Kind). IsTested job v → (j i : ℕ) → IsColumn job j i → PassesPoint job.cutter m (tested_point job v done j i)) (sym e)
+      subst (λ (v : Kind). IsTested job v → (j i : ℕ) → IsColumn job j i → SolidPassesPoint (stock_solid_of job) m (tested_point job v done j i)) (sym e)
       (λ tested j i column. safe.stock e (column_x job i) (column_y job j))
   columns done m Feed e safe = safe.depth e
 
-  pub pass_first : (from to : Pt3) (moves : List Move) → GoSafely job part [] from moves to → AllPassFirst job part moves
-  pass_first from to moves go k inside =
+  pub pass_first : (from to : Pt3) (moves : List Move) → IsJob job → GoSafely job part [] from moves to → AllPassFirst job part moves
+  pass_first from to moves ok go k inside =
       let safe : IsSafeMove job part (take k moves) (move_at moves k) = safe_at [] moves k go.safe inside in
+      let passes : ToolPassesPart (part_tool_of job) (move_at moves k) part = part_tool_passes job (move_at moves k) part ok safe.passes in
       record {
         floor = record { start = safe.floor_from; «end» = safe.floor_to };
-        clears = safe.passes.cutter;
-        holder = safe.passes.holder;
+        clears = passes.cutter;
+        holder = passes.holder;
         stock = columns (take k moves) (move_at moves k) (move_at moves k).kind refl safe;
       }
 
   -- without a holder there is no further test
   no_holder : (done : List Move) (m : Move) → job.holder ≡ None → HolderClearsColumns job done m
   no_holder done m bare =
-      subst (λ (o : Option Solid). IfSome o (λ holder. (j i : ℕ) → IsColumn job j i → SolidPassesPoint holder m (top_point job done j i))) (sym bare) tt
+      subst (λ (o : Option Solid). IfSome (held_with job.slack o) (λ holder. (j i : ℕ) → IsColumn job j i → SolidPassesPoint holder m (top_point job done j i))) (sym bare) tt
 
-  pub good : (from to : Pt3) (moves : List Move) → job.holder ≡ None → GoSafely job part [] from moves to → GoodBefore job part moves (length moves)
-  good from to moves bare go k inside =
-      let first : PassesFirst job part moves k = pass_first from to moves go k inside in
+  pub good : (from to : Pt3) (moves : List Move) → IsJob job → job.holder ≡ None → GoSafely job part [] from moves to → GoodBefore job part moves (length moves)
+  good from to moves ok bare go k inside =
+      let first : PassesFirst job part moves k = pass_first from to moves ok go k inside in
       record {
         floor = first.floor;
         clears = first.clears;
@@ -99,8 +102,8 @@ module _ (job : JobFields) (part : List Tri) (moves : List Move) (all : AllPassF
   -- such a move isn't stopped by a column
   not_stopped : (kind : Kind) (k j i : ℕ) (leaf : Leaf) → FailsStock job part moves kind k j i leaf → ⊥
   not_stopped kind k j i leaf fails =
-      let passes : PassesPoint job.cutter (move_at moves k) (tested_point job kind (take k moves) j i) =
-      subst (λ (v : Kind). IsTested job v → (a b : ℕ) → IsColumn job a b → PassesPoint job.cutter (move_at moves k) (tested_point job v (take k moves) a b)) fails.is
+      let passes : SolidPassesPoint (stock_solid_of job) (move_at moves k) (tested_point job kind (take k moves) j i) =
+      subst (λ (v : Kind). IsTested job v → (a b : ℕ) → IsColumn job a b → SolidPassesPoint (stock_solid_of job) (move_at moves k) (tested_point job v (take k moves) a b)) fails.is
       (all k fails.there).stock fails.tested j i fails.column in
       fails.fails.fails passes
 

@@ -3,6 +3,7 @@ mod Feeding
 mod Touring
 mod Homing
 mod Planning
+mod Nested
 mod Good
 mod Ends
 mod Reach

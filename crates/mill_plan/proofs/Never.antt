@@ -25,4 +25,4 @@ goes rough_free level_free finish_free round job part moves ok under plan =
 
 pub never_fails : RoughVisitsAreFree → LevelVisitsAreFree → FinishVisitsAreFree → RoundIsSafe → PlanNeverFails
 never_fails rough_free level_free finish_free round job part moves reason ok under plan fails =
-    only_of_stock job part moves (pass_first job part (home job) (home job) moves (goes rough_free level_free finish_free round job part moves ok under plan)) reason fails
+    only_of_stock job part moves (pass_first job part (home job) (home job) moves ok (goes rough_free level_free finish_free round job part moves ok under plan)) reason fails

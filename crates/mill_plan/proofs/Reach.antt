@@ -7,6 +7,7 @@ use Rattle.mill_base.proofs.Integers.{one-mul-ℤ}
 use Rattle.mill_base.specs.Contact.{Holds}
 use Rattle.mill_base.specs.Covers.{Covered, IsHighestCovered}
 use Rattle.mill_base.specs.Points.{point_at}
+use Rattle.mill_base.specs.Solids.{SolidHolds, solid_tip}
 use Rattle.mill_base.specs.declared.cutter.Cutter.{Cutter}
 use Rattle.mill_base.specs.declared.motion.Move.{Move}
 use Rattle.mill_base.specs.declared.points.Pt3.{Pt3}
@@ -15,6 +16,7 @@ use Rattle.mill_dexel.proofs.Cleared.{cut_at_end}
 use Rattle.mill_dexel.specs.Tops.{top_after}
 use Rattle.mill_job.specs.Columns.{column_x, column_y}
 use Rattle.mill_job.specs.Jobs.{IsJob}
+use Rattle.mill_job.specs.Solids.{inner_of}
 use Rattle.mill_job.specs.declared.fields.JobFields.{JobFields}
 use Rattle.mill_part.proofs.Below.{covered_below}
 use Rattle.mill_links.specs.Safety.{IsEndOf}
@@ -51,12 +53,12 @@ free_under cutter t x y low high order free held =
     up : (a b : ℤ) → a ≤ℤ b → (pos 1 *ℤ a) ≤ℤ b
     up a b h = omega (h, arith, ints)
 
--- at the end of a good move the cutter holds no column's top
+-- at the end of a good move what the cutter removes for sure holds no column's top
 free_at_end : (job : JobFields) (part : List Tri) (moves : List Move) (p : Pt3) (x y : ℤ) → IsJob job → GoodBefore job part moves (length moves) → IsEndOf moves p
-    → ¬ Holds job.cutter (pos 1) p (pos 1) (point_at x y (top_after job x y moves))
+    → ¬ SolidHolds (inner_of job) (pos 1) p (pos 1) (point_at x y (top_after job x y moves))
 free_at_end job part moves p x y ok good end =
-    subst (λ (q : Pt3). ¬ Holds job.cutter (pos 1) q (pos 1) (point_at x y (top_after job x y moves))) end.here
-    (cut_at_end job moves end.move x y ok.cutter_ok end.member (floor_at_end job part moves end.move good end.member))
+    subst (λ (q : Pt3). ¬ SolidHolds (inner_of job) (pos 1) q (pos 1) (point_at x y (top_after job x y moves))) end.here
+    (cut_at_end job moves end.move x y ok end.member (floor_at_end job part moves end.move good end.member))
 
 pub out_of_reach : (job : JobFields) (part : List Tri) (moves : List Move) (row col : ℕ) (top : ℤ) → IsJob job → HasPlan job part moves → FailsCut job part moves row col top
     → IsOutOfReach job part row col top
@@ -69,7 +71,7 @@ out_of_reach job part moves row col top ok plan left visits height are highest =
     let ends : All (λ (v : Visit). IsEndOf moves v.at) visits =
     subst (λ (vs : List Visit). All (λ (v : Visit). IsEndOf moves v.at) vs) (one_finish job part plan.is.are.finish visits plan.is.are.are_finish are)
     (finish_ends job part moves plan.is ok) in
-    All-weaker (λ (v : Visit). IsEndOf moves v.at) (λ (v : Visit). ¬ Holds job.cutter (pos 1) v.at (pos 1) (point_at x y (height +ℤ job.allowance +ℤ pos 1)))
-    (λ v end. free_under job.cutter v.at x y (height +ℤ job.allowance +ℤ pos 1) top order
-    (subst (λ (z : ℤ). ¬ Holds job.cutter (pos 1) v.at (pos 1) (point_at x y z)) (sym left.shown) (free_at_end job part moves v.at x y ok left.before end)))
+    All-weaker (λ (v : Visit). IsEndOf moves v.at) (λ (v : Visit). ¬ SolidHolds (inner_of job) (pos 1) v.at (pos 1) (point_at x y (height +ℤ job.allowance +ℤ pos 1)))
+    (λ v end. free_under (inner_of job).cutter (solid_tip (inner_of job) (pos 1) v.at) x y (height +ℤ job.allowance +ℤ pos 1) top order
+    (subst (λ (z : ℤ). ¬ SolidHolds (inner_of job) (pos 1) v.at (pos 1) (point_at x y z)) (sym left.shown) (free_at_end job part moves v.at x y ok left.before end)))
     visits ends

@@ -41,7 +41,7 @@ module _ (job : JobFields) (part : List Tri) (moves : List Move) (plan : HasPlan
   held_told number row col leaf stopped = record { moves = moves; plan = plan; leaf = leaf; stopped = stopped }
 
 -- and there is no other rejection
-pub no_other : (job : JobFields) (part : List Tri) (moves : List Move) (reason : Reason) → GoSafely job part [] (home job) moves (home job) → IsVerdict job part moves (Reject reason)
+pub no_other : (job : JobFields) (part : List Tri) (moves : List Move) (reason : Reason) → IsJob job → GoSafely job part [] (home job) moves (home job) → IsVerdict job part moves (Reject reason)
     → ((row col : ℕ) (top : ℤ) → reason ≡ Left row col top → ⊥) → ((number row col : ℕ) (leaf : Leaf) → reason ≡ HolderStock number row col leaf → ⊥) → ⊥
-no_other job part moves reason go rejected left held =
-    of_stock_only reason (only_of_stock job part moves (pass_first job part (home job) (home job) moves go) reason rejected) left held
+no_other job part moves reason ok go rejected left held =
+    of_stock_only reason (only_of_stock job part moves (pass_first job part (home job) (home job) moves ok go) reason rejected) left held

@@ -1,7 +1,7 @@
 -- What a planner can answer to a job and a part, and when each answer is right.
 use Rattle.std.specs.Prelude.{◌≡◌, ◌⊎◌, ℕ, ◌≤◌, ◌<◌, ℤ, pos, ◌+ℤ◌, ◌<ℤ◌, List, length, All, Ok}
 use Rattle.mill_base.specs.declared.limits.TheConstants.{MAX_MOVES, MAX_NODES}
-use Rattle.mill_base.specs.Contact.{Holds}
+use Rattle.mill_base.specs.Solids.{SolidHolds}
 use Rattle.mill_base.specs.Covers.{IsHighestCovered}
 use Rattle.mill_base.specs.Lattices.{node_count}
 use Rattle.mill_base.specs.Points.{point_at}
@@ -9,6 +9,7 @@ use Rattle.mill_base.specs.Ranges.{MovesInUnitRange}
 use Rattle.mill_base.specs.declared.points.Tri.{Tri}
 use Rattle.mill_base.specs.declared.motion.Move.{Move}
 use Rattle.mill_job.specs.Columns.{home, column_x, column_y}
+use Rattle.mill_job.specs.Solids.{inner_of}
 use Rattle.mill_job.specs.declared.fields.JobFields.{JobFields}
 use Rattle.mill_ngc.specs.Programs.{program_of}
 use Rattle.mill_links.specs.declared.visit.Visit.{Visit}
@@ -100,11 +101,11 @@ pub record IsDone (job : JobFields) (part : List Tri) (text : List ℕ) (count c
   pub accepted : IsVerdict job part moves (Accept count columns left)
   pub safe : CutsSafely job part moves
 
--- no finishing visit has the point strictly inside the cutter that lies one unit over the column's greatest covered height and the allowance
+-- no finishing visit has the point inside what the cutter removes for sure there that lies one unit over the column's greatest covered height and the allowance
 abbrev pub IsOutOfReach : JobFields → List Tri → ℕ → ℕ → ℤ → Type 0
 IsOutOfReach job part row col top = (visits : List Visit) (height : ℤ) → AreFinishVisits job part visits
     → IsHighestCovered part job.floor job.band (column_x job col) (column_y job row) top height
-    → All (λ v. ¬ Holds job.cutter (pos 1) v.at (pos 1) (point_at (column_x job col) (column_y job row) (height +ℤ job.allowance +ℤ pos 1))) visits
+    → All (λ v. ¬ SolidHolds (inner_of job) (pos 1) v.at (pos 1) (point_at (column_x job col) (column_y job row) (height +ℤ job.allowance +ℤ pos 1))) visits
 
 -- the verdict on the plan's moves is that the column's top is left too high, and the finishing path can't come to it
 pub record IsUncut (job : JobFields) (part : List Tri) (row col : ℕ) (top : ℤ) : Type 0 where

@@ -101,6 +101,12 @@ module _ (job : JobFields) (rows : List RowState) (ok : IsJob job) (j i : ℕ) (
   inside : j < length rows
   inside = let c = column.row in omega (c, count, arith)
 
+  pub in_row : All (IsRowOf job) rows → i < length tops
+  in_row rows_ok =
+      let is : IsRowOf job row = subst (IsRowOf job) (sym read) (rows_ok j row inside) in
+      let c = column.column in
+      subst (λ (ts : List ℤ). i < length ts) (sym same) (let n = is.columns in omega (c, n, arith))
+
   pub top_from : All (IsRowOf job) rows → IsFrom job.floor job.top (slice_index_or tops i (pos 0))
   top_from rows_ok =
       let is : IsRowOf job row = subst (IsRowOf job) (sym read) (rows_ok j row inside) in

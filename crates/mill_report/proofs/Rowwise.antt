@@ -7,6 +7,7 @@ use Rattle.mill_base.specs.declared.points.Pt3.{Pt3}
 use Rattle.mill_base.specs.declared.motion.Move.{Move}
 use Rattle.mill_base.specs.declared.motion.Kind.{Kind}
 use Rattle.mill_sweep.specs.Solids.{SolidFailsAt, SolidIsBlocked, SolidPassesPoint}
+use Rattle.mill_job.specs.Solids.{holder_solid_of}
 use Rattle.mill_job.specs.declared.fields.JobFields.{JobFields}
 use Rattle.mill_job.specs.Columns.{IsBefore, IsColumn, column_count, row_count}
 use Rattle.mill_dexel.specs.Rows.{HolderClearsRow, IsColumnBlocked, IsFirstStop, PassesRow, RowState, Test, cutting, holding, row_point}
@@ -61,12 +62,12 @@ module _ (job : JobFields) (stock : Stock) (rows : ℕ → RowState) (shows : (j
   }
 
   -- and the holder
-  held_passes : (holder : Solid) → job.holder ≡ Some holder → (j : ℕ) → HolderClearsRow job (rows j) m → PassesRow job (holding holder m) (rows j)
-  held_passes holder mounted j clears = of_some (λ (h : Solid). PassesRow job (holding h m) (rows j)) job.holder holder mounted clears
+  held_passes : (holder : Solid) → holder_solid_of job ≡ Some holder → (j : ℕ) → HolderClearsRow job (rows j) m → PassesRow job (holding holder m) (rows j)
+  held_passes holder mounted j clears = of_some (λ (h : Solid). PassesRow job (holding h m) (rows j)) (holder_solid_of job) holder mounted clears
 
   holder_clears : HolderClears job rows m (row_count job) → HolderClearsColumnsOn job stock m
   holder_clears clears =
-      if_some (λ (holder : Solid). (j i : ℕ) → IsColumn job j i → SolidPassesPoint holder m (top_point_on job stock j i)) job.holder
+      if_some (λ (holder : Solid). (j i : ℕ) → IsColumn job j i → SolidPassesPoint holder m (top_point_on job stock j i)) (holder_solid_of job)
       (λ holder mounted j i column. row_passes (holding holder m) j i column (held_passes holder mounted j (clears j column.row)))
 
   holder_stops : (stop : Stop) → IsHolderRow job rows m (row_count job) stop → IsHolderStop job stock m stop

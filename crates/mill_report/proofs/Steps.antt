@@ -3,8 +3,7 @@ use Rattle.std.specs.Prelude.{◌≡◌, ℕ, List, [], ◌∷◌, Some, refl}
 use Rattle.std.proofs.Common.{arith}
 use Rattle.mill_base.specs.Points.{point_tri, tri_at}
 use Rattle.mill_base.specs.Ranges.{MoveInRange}
-use Rattle.mill_base.proofs.SolidLemmas.{cutter_is_solid}
-use Rattle.mill_base.specs.Solids.{IsSolid, Solid, at_tip}
+use Rattle.mill_base.specs.Solids.{IsSolid, Solid}
 use Rattle.mill_base.specs.declared.points.Tri.{Tri}
 use Rattle.mill_base.specs.declared.motion.Move.{Move}
 use Rattle.mill_base.specs.declared.motion.Kind.{Kind}
@@ -15,7 +14,9 @@ use Rattle.mill_sweep.specs.Moments.{FailingIsBlocked}
 use Rattle.mill_sweep.specs.Solids.{SolidFailsAt, SolidIsBlocked}
 use Rattle.mill_sweep.specs.declared.leaf.Leaf.{Leaf}
 use Rattle.mill_job.specs.declared.fields.JobFields.{JobFields}
-use Rattle.mill_job.specs.Jobs.{IsJob, tool_of}
+use Rattle.mill_job.specs.Jobs.{IsJob, part_tool_of}
+use Rattle.mill_job.specs.Solids.{holder_solid_of, part_solid_of, stock_solid_of}
+use Rattle.mill_job.proofs.SolidFacts.{holder_solid_ok, part_solid_ok, stock_solid_ok}
 use Rattle.mill_dexel.specs.Tops.{Stock, tested_point_on, top_point_on}
 use Rattle.mill_dexel.specs.declared.fail.RowTest.{RowTest}
 use Rattle.mill_dexel.specs.declared.fail.RowTest.TheVariants as test
@@ -36,25 +37,22 @@ module _ (failing_is_blocked : FailingIsBlocked) (job : JobFields) (m : Move) (j
   leaf_named : (solid : Solid) → IsSolid solid → (leaf : Leaf) (tri : Tri) → SolidFailsAt solid m tri leaf → SolidIsBlocked solid m tri leaf → BlocksLeaf solid m leaf tri
   leaf_named solid ok leaf tri fails blocked = record { last = (failing_is_blocked solid m tri leaf ok range fails).0; blocks = blocked }
 
-  cutter_ok : IsSolid (at_tip job.cutter)
-  cutter_ok = cutter_is_solid job.cutter job_ok.cutter_ok
-
-  held_named : (holder : Solid) (leaf : Leaf) (tri : Tri) → job.holder ≡ Some holder → SolidFailsAt holder m tri leaf → SolidIsBlocked holder m tri leaf → BlocksHolder job (m ∷ []) 0 leaf tri
+  held_named : (holder : Solid) (leaf : Leaf) (tri : Tri) → holder_solid_of job ≡ Some holder → SolidFailsAt holder m tri leaf → SolidIsBlocked holder m tri leaf → BlocksHolder job (m ∷ []) 0 leaf tri
   held_named holder leaf tri mounted fails blocked =
-      record { holder = holder; mounted = mounted; blocks = leaf_named holder (of_some IsSolid job.holder holder mounted job_ok.holder_ok) leaf tri fails blocked }
+      record { holder = holder; mounted = mounted; blocks = leaf_named holder (of_some IsSolid (holder_solid_of job) holder mounted (holder_solid_ok job job_ok)) leaf tri fails blocked }
 
   -- ---- the tests against the part
-  gouges : (part : List Tri) (number : ℕ) (gouge : OneGouge) → IsFirstGouge (at_tip job.cutter) m part gouge → FailsPart job part m number (Gouge number gouge.tri gouge.leaf)
+  gouges : (part : List Tri) (number : ℕ) (gouge : OneGouge) → IsFirstGouge (part_solid_of job) m part gouge → FailsPart job part m number (Gouge number gouge.tri gouge.leaf)
   gouges part number gouge h stock over = record {
     at = refl;
     fails = record {
       of_move = tt;
       rejects = record { there = omega arith; before = λ e less. absurd (omega (less, arith)); floor = over; tri = h.tri; first = h.first; fails = h.fails };
     };
-    names = leaf_named (at_tip job.cutter) cutter_ok gouge.leaf (tri_at part gouge.tri) h.fails h.blocked;
+    names = leaf_named (part_solid_of job) (part_solid_ok job job_ok) gouge.leaf (tri_at part gouge.tri) h.fails h.blocked;
   }
 
-  holder_gouges : (part : List Tri) (number : ℕ) (holder : Solid) (gouge : OneGouge) → PassesPart (at_tip job.cutter) m part → job.holder ≡ Some holder → IsFirstGouge holder m part gouge
+  holder_gouges : (part : List Tri) (number : ℕ) (holder : Solid) (gouge : OneGouge) → PassesPart (part_solid_of job) m part → holder_solid_of job ≡ Some holder → IsFirstGouge holder m part gouge
       → FailsPart job part m number (Holder number gouge.tri gouge.leaf)
   holder_gouges part number holder gouge clears mounted h stock over = record {
     at = refl;
@@ -80,7 +78,7 @@ module _ (failing_is_blocked : FailingIsBlocked) (job : JobFields) (m : Move) (j
   part_fails part number (fail.Holder gouge) h = holder_gouges part number h.holder gouge h.clears h.mounted h.first
 
   -- ---- the tests against the stock, which come last
-  module _ (part : List Tri) (stock : Stock) (number : ℕ) (over : IsOverFloor job (m ∷ []) 0) (tool : ToolPassesPart (tool_of job) m part) where
+  module _ (part : List Tri) (stock : Stock) (number : ℕ) (over : IsOverFloor job (m ∷ []) 0) (tool : ToolPassesPart (part_tool_of job) m part) where
     pub passes_all : PassesStock job stock m → IsGoodOn job part stock (m ∷ []) 0
     passes_all passes = record { floor = over; clears = tool.cutter; holder = tool.holder; stock = passes.cut; holder_stock = passes.holder }
 
@@ -114,12 +112,12 @@ module _ (failing_is_blocked : FailingIsBlocked) (job : JobFields) (m : Move) (j
     }
 
     by_kind : (kind : Kind) (stop : Stop) → FailsStockOn job part stock (m ∷ []) kind 0 stop.row stop.col stop.leaf
-        → BlocksLeaf (at_tip job.cutter) m stop.leaf (point_tri (tested_point_on job kind stock stop.row stop.col)) → FailsMove job part stock m number (cut_reason kind number stop.row stop.col stop.leaf)
+        → BlocksLeaf (stock_solid_of job) m stop.leaf (point_tri (tested_point_on job kind stock stop.row stop.col)) → FailsMove job part stock m number (cut_reason kind number stop.row stop.col stop.leaf)
     by_kind Rapid stop h names = record { at = refl; fails = record { of_move = tt; rejects = h }; names = names }
     by_kind Feed stop h names = record { at = refl; fails = record { of_move = tt; rejects = h }; names = names }
 
     by_test : (t : RowTest) (stop : Stop) → StopsBy t job stock m stop → FailsMove job part stock m number (stock_reason t m.kind number stop.row stop.col stop.leaf)
-    by_test test.Cut stop h = by_kind m.kind stop (cut_fails stop h) (leaf_named (at_tip job.cutter) cutter_ok stop.leaf (point_tri (tested_point_on job m.kind stock stop.row stop.col)) h.at.fails h.at.blocked)
+    by_test test.Cut stop h = by_kind m.kind stop (cut_fails stop h) (leaf_named (stock_solid_of job) (stock_solid_ok job job_ok) stop.leaf (point_tri (tested_point_on job m.kind stock stop.row stop.col)) h.at.fails h.at.blocked)
     by_test test.Holder stop h = record {
       at = refl;
       fails = record { of_move = tt; rejects = held_fails stop h };

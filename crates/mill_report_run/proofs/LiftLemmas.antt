@@ -7,21 +7,19 @@ use Rattle.std.specs.List.{AllZip}
 use Rattle.std.specs.Prelude.{ℤ, pos, ◌+ℤ◌, ◌-ℤ◌, ◌≤ℤ◌, int_lt, nat_abs, Option, None, Some}
 use Rattle.mill_base.specs.Numbers.{lesser}
 use Rattle.mill_base.specs.Ranges.{MoveInRange}
-use Rattle.mill_base.specs.Solids.{Solid}
 use Rattle.mill_base.specs.declared.limits.TheConstants.{MAX_COORDINATE}
 use Rattle.mill_base.specs.declared.motion.Move.{Move}
 use Rattle.mill_base.specs.declared.points.Tri.{Tri}
 use Rattle.mill_base.specs.declared.tool.Tool.{Tool}
 use Rattle.mill_dexel.specs.Turns.{move_at}
-use Rattle.mill_job.specs.Jobs.{IsJob, tool_of}
 use Rattle.mill_job.specs.declared.fields.JobFields.{JobFields}
 use Rattle.mill_gouge.specs.Laws.{OverPartPasses, PassesFromLift}
-use Rattle.mill_gouge.specs.Lifts.{HasRoom, IsLeastLift, IsTipLowest, raised}
+use Rattle.mill_gouge.specs.Lifts.{HasRoom, IsLeastLift, ceiling_of, low_of, raised}
 use Rattle.mill_report.specs.Findings.{move_of}
 use Rattle.mill_report_run.specs.Reports.{IsLift, IsLiftOf}
 use Rattle.mill_report_run.specs.inner.Lifts.{lifted_move}
 use Rattle.mill_sweep.specs.Leaves.{length_z}
-use Rattle.mill_verify.proofs.Mounted.{each_some}
+use Rattle.mill_sweep.specs.Reach.{low_end_of}
 use Rattle.mill_verify.specs.declared.verdict.Reason.{Reason}
 use Rattle.mill_verify.specs.declared.verdict.Reason.TheVariants.{Floor, Gouge, Holder, Rapid, Cut, HolderStock, Left}
 
@@ -59,13 +57,6 @@ module _ (job : JobFields) (part : List Tri) (moves : List Move) where
 
 -- ---- how great a lift is
 
--- neither the cutter of a job nor its holder has its tip under the tool's
-pub tip_lowest : (job : JobFields) → IsJob job → IsTipLowest (tool_of job)
-tip_lowest job ok = record {
-  cutter = omega (arith, ints);
-  holder = each_some (λ (holder : Solid). (pos 1) ≤ℤ holder.lift) (λ (holder : Solid). (pos 0) ≤ℤ holder.lift) job.holder (λ holder over. omega (over, arith, ints)) ok.stickout;
-}
-
 -- raised so far, the lower end is over the part's highest corner
 high : (a b : ℤ) (long : ℕ) → nat_abs a ≤ MAX_COORDINATE → nat_abs b ≤ MAX_COORDINATE → (pos MAX_COORDINATE -ℤ pos long) ≤ℤ lesser (a +ℤ pos (2 * MAX_COORDINATE)) (b +ℤ pos (2 * MAX_COORDINATE))
 high a b long a_ok b_ok = by (int_lt (b +ℤ pos (2 * MAX_COORDINATE)) (a +ℤ pos (2 * MAX_COORDINATE)))
@@ -75,11 +66,14 @@ high a b long a_ok b_ok = by (int_lt (b +ℤ pos (2 * MAX_COORDINATE)) (a +ℤ p
     by false = omega (a_ok, b_ok, arith, ints)
 
 -- so no least lift is greater
-pub lift_small : OverPartPasses → PassesFromLift → (tool : Tool) (part : List Tri) (m : Move) (n : ℕ) → IsTipLowest tool → MoveInRange m → HasRoom part m → IsLeastLift tool part m n → n ≤ 2 * MAX_COORDINATE
-lift_small over from tool part m n lowest range room least =
+pub lift_small : OverPartPasses → PassesFromLift → (tool : Tool) (part : List Tri) (m : Move) (n : ℕ) → MoveInRange m → HasRoom tool part m → IsLeastLift tool part m n → n ≤ 2 * MAX_COORDINATE
+lift_small over from tool part m n range room least =
     (from tool part m n (2 * MAX_COORDINATE) least).0
-    (over tool part (raised (2 * MAX_COORDINATE) m) (pos MAX_COORDINATE -ℤ pos (length_z m)) lowest room
-    (high m.from.z m.to.z (length_z m) range.from_ok.z_ok.within range.to_ok.z_ok.within))
+    (over tool part (raised (2 * MAX_COORDINATE) m) (ceiling_of tool m) room
+    (less (pos MAX_COORDINATE -ℤ pos (length_z m)) (low_end_of (raised (2 * MAX_COORDINATE) m)) (low_of tool) (high m.from.z m.to.z (length_z m) range.from_ok.z_ok.within range.to_ok.z_ok.within)))
+  where
+    less : (a b l : ℤ) → a ≤ℤ b → (a -ℤ l) ≤ℤ (b -ℤ l)
+    less a b l h = omega (h, arith, ints)
 
 -- ---- one lift after another
 

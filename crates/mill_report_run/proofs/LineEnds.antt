@@ -10,6 +10,7 @@ use Rattle.mill_load.specs.declared.load.LoadFault.{LoadFault}
 use Rattle.mill_load.specs.declared.load.LoadFault.TheVariants as load_fault
 use Rattle.mill_load.specs.declared.load.Unfit.{Unfit}
 use Rattle.mill_load.specs.declared.load.Unfit.TheVariants.{TooLong, JobRefused, PartRefused, ListRefused, ProgramRefused, PartTop}
+use Rattle.mill_answer.specs.Printed.{margin_words}
 use Rattle.mill_answer.specs.Verify.{reason_words, verdict_line}
 use Rattle.mill_verify.specs.declared.verdict.Verdict.{Verdict}
 use Rattle.mill_verify.specs.declared.verdict.Verdict.TheVariants.{Accept, Reject}
@@ -28,7 +29,7 @@ line_ends (w ∷ v ∷ ws) =
 
 pub verdict_ends : (job : JobFields) (moves : List Move) (verdict : Verdict) → EndsLine (verdict_line job moves verdict)
 verdict_ends job moves (Accept count columns left) =
-    line_ends (codes "accepted" ∷ codes "moves" ∷ decimal count ∷ codes "columns" ∷ decimal columns ∷ codes "left" ∷ canonical job.unit left ∷ codes "band" ∷ canonical job.unit job.band ∷ codes "allowance" ∷ canonical job.unit job.allowance ∷ [])
+    line_ends (codes "accepted" ∷ codes "moves" ∷ decimal count ∷ codes "columns" ∷ decimal columns ∷ codes "left" ∷ canonical job.unit left ∷ codes "band" ∷ canonical job.unit job.band ∷ codes "allowance" ∷ canonical job.unit job.allowance ∷ margin_words job.unit job.overcut job.slack)
 verdict_ends job moves (Reject reason) = line_ends (codes "rejected" ∷ reason_words job.unit moves reason)
 
 unfit_ends : (fault : Unfit) → EndsLine (unfit_line fault)

@@ -16,7 +16,7 @@ use Rattle.mill_dexel.specs.Tops.{stock_after, uncut}
 use Rattle.mill_dexel.specs.Turns.{move_at}
 use Rattle.mill_document.specs.Documents.{column_data, fault_data, report_data, text_of}
 use Rattle.mill_job.specs.Columns.{home}
-use Rattle.mill_job.specs.Jobs.{tool_of}
+use Rattle.mill_job.specs.Jobs.{part_tool_of}
 use Rattle.mill_job.specs.declared.fields.JobFields.{JobFields}
 use Rattle.mill_gouge.specs.Laws.{OneLift}
 use Rattle.mill_answer.specs.Faults.{fault_status}
@@ -139,7 +139,7 @@ one_lift_of : OneLift → (job : JobFields) (part : List Tri) (m : Move) (a b : 
 one_lift_of one job part m None None s t = refl
 one_lift_of one job part m None (Some b) s t = absurd (s t.0)
 one_lift_of one job part m (Some a) None s t = absurd (t s.0)
-one_lift_of one job part m (Some a) (Some b) (room, (n, e, least)) (again, (k, f, smallest)) = ap Some (e ∙ ap pos (one (tool_of job) part m n k least smallest) ∙ sym f)
+one_lift_of one job part m (Some a) (Some b) (room, (n, e, least)) (again, (k, f, smallest)) = ap Some (e ∙ ap pos (one (part_tool_of job) part m n k least smallest) ∙ sym f)
 
 one_lift_for : OneLift → (job : JobFields) (part : List Tri) (moves : List Move) (reason : Reason) (a b : Option ℤ) → IsLift job part moves reason a → IsLift job part moves reason b → a ≡ b
 one_lift_for one job part moves (Gouge k t leaf) a b g h = one_lift_of one job part (move_at moves k) a b g h

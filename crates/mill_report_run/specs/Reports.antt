@@ -11,7 +11,7 @@ use Rattle.mill_document.specs.declared.report.Sums.{Sums}
 use Rattle.mill_dexel.specs.Tops.{uncut}
 use Rattle.mill_dexel.specs.Turns.{move_at}
 use Rattle.mill_job.specs.Columns.{column_count, home, row_count}
-use Rattle.mill_job.specs.Jobs.{tool_of}
+use Rattle.mill_job.specs.Jobs.{part_tool_of}
 use Rattle.mill_job.specs.declared.fields.JobFields.{JobFields}
 use Rattle.mill_gouge.specs.Lifts.{HasRoom, IsLeastLift}
 use Rattle.mill_answer.specs.Faults.{fault_line, fault_status}
@@ -51,10 +51,10 @@ sums_of texts = record { job = sha256 texts.job; part = sha256 texts.part; progr
 
 -- ---- the moves that fail
 
--- the least lift of a move, where the move, raised over the part, stays in the range of coordinates, and else none
+-- the least lift of a move, by what of the tool is tested against the part, where the move, raised over the part, stays in the range of coordinates, and else none
 abbrev pub IsLiftOf : JobFields → List Tri → Move → Option ℤ → Type 0
-IsLiftOf job part m None = ¬ HasRoom part m
-IsLiftOf job part m (Some lift) = HasRoom part m × ((n : ℕ) × (lift ≡ pos n) × IsLeastLift (tool_of job) part m n)
+IsLiftOf job part m None = ¬ HasRoom (part_tool_of job) part m
+IsLiftOf job part m (Some lift) = HasRoom (part_tool_of job) part m × ((n : ℕ) × (lift ≡ pos n) × IsLeastLift (part_tool_of job) part m n)
 
 -- the lift of a finding: that of its move, if the test is one against the part; else none
 abbrev pub IsLift : JobFields → List Tri → List Move → Reason → Option ℤ → Type 0

@@ -2,7 +2,7 @@
 ghost use Rattle.std.specs.List.{AllZip};
 ghost use Rattle.std.specs.Prelude.{◌≡◌, ℕ, pos, All, IfOk};
 ghost use Rattle.mill_base.specs.Ranges.{MoveInRange, MovesInRange};
-ghost use Rattle.mill_gouge.specs.Lifts.{HasRoom, IsLeastLift, IsTipLowest};
+ghost use Rattle.mill_gouge.specs.Lifts.{HasRoom, IsLeastLift};
 ghost use Rattle.mill_report.specs.Findings.{IsFinding};
 ghost use Rattle.mill_report_run.specs.inner.Lifts.{lifted_move as lifted_move_of};
 ghost use Rattle.mill_report_run.specs.Reports.{IsLift, IsLiftOf};
@@ -61,17 +61,17 @@ fn move_lift(job: &Job, part: &SortedPart, step: &Move) -> Option<i32>
     requires step_ok { MoveInRange step.now }
     ensures { IsLiftOf job.now.fields part.now step.now result }
 {
-    if !has_room(part.part(), step) {
+    let tool = job.part_tool();
+    if !has_room(&tool, part.part(), step) {
         return None;
     }
-    Some(least_units(&job.tool(), part, step))
+    Some(least_units(&tool, part, step))
 }
 
 /// The least lift of a move that has room, as a length.
 fn least_units(tool: &Tool, part: &SortedPart, step: &Move) -> i32
-    requires lowest { IsTipLowest tool.now }
     requires step_ok { MoveInRange step.now }
-    requires room_ok { HasRoom part.now step.now }
+    requires room_ok { HasRoom tool.now part.now step.now }
     ensures { (n : ℕ) × (result ≡ pos n) × IsLeastLift tool.now part.now step.now n }
 {
     // Laws without code: a move that is raised over the part passes, so the least lift is no more

@@ -35,9 +35,10 @@ fn left(alloc: Global, job: &Job, part: &SortedPart, moves: &[Move]) -> Result<S
     Ok(format!(in alloc; "{total}: {shown:?}")?)
 }
 
-// The first move is good. The second is a rapid into the uncut block, and it cuts it: so the third, the same again,
-// is good. The fourth goes into the plate, by its second triangle alone. The fifth ends under the floor, and the last
-// goes into the plate, as a rapid into the uncut block: each is told of once, by its first test.
+// The first move is good. The second is a rapid into the uncut block, and it cuts it: so the third,
+// the same again, is good. The fourth goes into the plate, by its second triangle alone. The fifth
+// ends under the floor, and the last goes into the plate, as a rapid into the uncut block: each is
+// told of once, by its first test.
 fn mixed() -> [Move; 6]
     ensures { MovesInRange result }
 {
@@ -51,8 +52,8 @@ fn mixed() -> [Move; 6]
     ]
 }
 
-// Of 256 parts of a way of 150 part 170 is the first that comes under 100 less than its start, and of a way of 201
-// part 254 the first that comes under 200 less.
+// Of 256 parts of a way of 150 part 170 is the first that comes under 100 less than its start, and
+// of a way of 201 part 254 the first that comes under 200 less.
 const MIXED_FAILING: &str = "[\
     Rapid { at: 1, row: 0, col: 1, leaf: Leaf { d: 8, k: 170 } }, \
     Gouge { at: 3, tri: 1, leaf: Leaf { d: 8, k: 254 } }, \
@@ -116,7 +117,8 @@ fn finds_no_column_where_none_is_left(rt: HostRuntime) -> Result<(), Fail> {
     Ok(())
 }
 
-// Down to 230 at once is more than 60, so that the point at 240 is in the way, and then down to 200 isn't.
+// Down to 230 at once is more than 60, so that the point at 240 is in the way, and then down to 200
+// isn't.
 fn deep() -> [Move; 2]
     ensures { MovesInRange result }
 {
@@ -136,9 +138,9 @@ fn tells_of_a_feed_that_cuts_too_deep(rt: HostRuntime) -> Result<(), Fail> {
     Ok(())
 }
 
-// A holder that is 60 over the tip comes down to 260, and is wide enough for the column of the first row beside its
-// own. The rapid fails by the cutter, in the second row, though its holder fails in the first. The feed, which only
-// the holder stops, fails there.
+// A holder that is 60 over the tip comes down to 260, and is wide enough for the column of the
+// first row beside its own. The rapid fails by the cutter, in the second row, though its holder
+// fails in the first. The feed, which only the holder stops, fails there.
 fn held() -> [Move; 2]
     ensures { MovesInRange result }
 {
@@ -161,7 +163,8 @@ fn tells_of_the_cutter_before_the_holder(rt: HostRuntime) -> Result<(), Fail> {
     Ok(())
 }
 
-// The cutter stays 10 away from the edge. Its holder, 40 over the tip, comes over the edge, once to 190 and then to 200.
+// The cutter stays 10 away from the edge. Its holder, 40 over the tip, comes over the edge, once to
+// 190 and then to 200.
 fn beside() -> [Move; 2]
     ensures { MovesInRange result }
 {
@@ -182,7 +185,8 @@ fn tells_of_a_holder_in_the_part(rt: HostRuntime) -> Result<(), Fail> {
     Ok(())
 }
 
-// A program that can be verified: a rapid into the block and up again, and a feed into the plate and up again.
+// A program that can be verified: a rapid into the block and up again, and a feed into the plate
+// and up again.
 fn twice() -> [Move; 4]
     ensures range { MovesInRange result }
     ensures follow { Follow (point_at (pos 100) (pos 100) (pos 400)) result }

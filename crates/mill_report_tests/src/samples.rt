@@ -8,6 +8,7 @@ ghost use Rattle.mill_base.specs.Ranges.{MoveInRange};
 ghost use Rattle.mill_base.specs.Sizes.{radius_of};
 ghost use Rattle.mill_base.specs.Solids.{IsSolid};
 ghost use Rattle.mill_job.specs.Columns.{home};
+ghost use Rattle.mill_job.specs.Jobs.{IsHeldOff};
 
 use mill_base::{Box2, Cutter, Kind, Move, Pt3, Solid, Unit};
 use mill_decimal::Snap;
@@ -17,49 +18,53 @@ use mill_tables::part_under;
 use std::alloc::Global;
 use std::test::Fail;
 
-/// A block of stock from 0 to 300 over a square of 200, and nine columns in it, 100 apart. The cutter is so narrow
-/// that it cuts one column at a time. A feed may cut this deep and no deeper; 0 is no limit.
+/// A block of stock from 0 to 300 over a square of 200, and nine columns in it, 100 apart. The
+/// cutter is so narrow that it cuts one column at a time. A feed may cut this deep and no deeper; 0
+/// is no limit.
+#[tactic(auto, unfolding(mill_job::specs::Jobs::HasRoom, mill_job::specs::Jobs::HolderHasRoom, mill_job::specs::Slack::graze_of))]
 pub(crate) fn block_job(max_cut: u8, holder: Option<Solid>) -> Job
     requires holder_ok { IfSome holder IsSolid }
     requires stickout { IfSome holder (λ around. pos 1 ≤ℤ around.lift) }
+    requires held_off { IfSome holder (IsHeldOff (pos 0)) }
     requires wider { IfSome holder (λ around. pos 50 <ℤ radius_of around.cutter) }
     ensures top { result.fields.top ≡ pos 300 }
     ensures start { home result.fields ≡ point_at (pos 100) (pos 100) (pos 400) }
 {
-    Job {
-        fields: JobFields {
-            unit: Unit::Hundredth,
-            cutter: Cutter::Flat { radius: 50 },
-            floor: 0,
-            top: 300,
-            clear: 400,
-            area: Box2 {
-                x0: 0,
-                y0: 0,
-                x1: 200,
-                y1: 200,
-            },
-            home: Place { x: 100, y: 100 },
-            pitch: 100,
-            sample: 50,
-            allowance: 0,
-            band: 0,
-            lift: 0,
-            raster: 100,
-            rough_raster: 100,
-            layer: 0,
-            rough_stock: 0,
-            levels: Levels::NONE,
-            snap: Snap::Nearest,
-            max_cut: i32::from(max_cut),
-            holder,
-            path_tol: None,
+    Job::new(JobFields {
+        unit: Unit::Hundredth,
+        cutter: Cutter::Flat { radius: 50 },
+        floor: 0,
+        top: 300,
+        clear: 400,
+        area: Box2 {
+            x0: 0,
+            y0: 0,
+            x1: 200,
+            y1: 200,
         },
-    }
+        home: Place { x: 100, y: 100 },
+        pitch: 100,
+        sample: 50,
+        allowance: 0,
+        band: 0,
+        lift: 0,
+        raster: 100,
+        rough_raster: 100,
+        layer: 0,
+        rough_stock: 0,
+        levels: Levels::NONE,
+        snap: Snap::Nearest,
+        max_cut: i32::from(max_cut),
+        holder,
+        path_tol: None,
+        slack: 0,
+        overcut: 0,
+        graze: None,
+    })
 }
 
-/// A plate at the height 200 over the square, of two triangles: the first on the side of y = 0, and the second on
-/// that of x = 0.
+/// A plate at the height 200 over the square, of two triangles: the first on the side of y = 0, and
+/// the second on that of x = 0.
 pub(crate) fn plate(alloc: Global) -> Result<SortedPart, Fail>
     ensures { IfOk result (λ part. IsUnder part (pos 300)) }
 {

@@ -1,15 +1,17 @@
 -- The work on `rest`: what was read and printed, put together.
-use Rattle.std.proofs.Common.{◌≡◌, ℕ, suc, ◌+◌, ◌<◌, List, [], ◌∷◌, ◌++◌, length, take, Option, Some, None, Result, Ok, Err, refl, sym, ap, subst, ◌∙◌, inl, inr}
+use Rattle.std.proofs.Common.{◌≡◌, ℕ, suc, ◌+◌, ◌<◌, List, [], ◌∷◌, ◌++◌, length, take, Option, Some, None, Result, Ok, Err, refl, sym, ap, subst, ◌∙◌, inl, inr, codes, decimal}
 use Rattle.std.proofs.lemmas.List.{get_or_default, take_more}
-use Rattle.std.specs.Prelude.{IfSome, slice_index_or}
+use Rattle.std.specs.Prelude.{ℤ, IfSome, slice_index_or}
 use Rattle.std.specs.Global.{Vec}
 use Rattle.mill_base.specs.declared.points.Tri.{Tri}
 use Rattle.mill_command.specs.Requests.{rest}
+use Rattle.mill_decimal.specs.Decimals.{canonical}
 use Rattle.mill_io.specs.Readings.{Reading}
 use Rattle.mill_job.specs.declared.fields.JobFields.{JobFields}
 use Rattle.mill_job.specs.declared.step.Step.{Step}
 use Rattle.mill_base.specs.declared.motion.Move.{Move}
 use Rattle.mill_verify.specs.Files.{File as CutFile, file_at}
+use Rattle.mill_verify.specs.declared.list.ListVerdict.TheVariants.{Accept}
 use Rattle.mill_load.specs.declared.file.File.{File}
 use Rattle.mill_load.specs.declared.file.File.TheVariants.{Job as JobFile, Part as PartFile, Program as ProgramFile, List as ListFile, StepProgram}
 use Rattle.mill_load.specs.declared.load.LoadFault.{LoadFault}
@@ -18,12 +20,14 @@ use Rattle.mill_load.specs.declared.load.Unfit.TheVariants.{TooLong, JobRefused,
 use Rattle.mill_run.specs.declared.rest.Listed.{Listed}
 use Rattle.mill_run.specs.Answers.{judged_files}
 use Rattle.mill_answer.specs.Calls.{Call, HoldsReads}
+use Rattle.mill_answer.specs.Lines.{line}
+use Rattle.mill_answer.specs.Printed.{margin_words}
 use Rattle.mill_run.specs.inner.Loads.{AreFilesReady, FailsInRest, LoadsFiles, LoadsList, StopsAtStep, rest_name}
 use Rattle.mill_load.specs.Loads.{LoadsProgram, LoadsSetup, NamesFault, OnlyLoads, ReadsFile}
 use Rattle.mill_run.specs.inner.Prints.{TriesListVerdict, fault_outcome}
 use Rattle.mill_run.specs.Outcomes.{no_memory, Fails, IsOutcome, Serves}
 use Rattle.mill_run.specs.Words.{RestFiles}
-use Rattle.mill_run.specs.Rest.{RestTexts, rest_texts, ReadsList, step_at, ReadsStep, ReadsSteps, ReadsToStep, IsUnfitRest, IsReadBeforeRest}
+use Rattle.mill_run.specs.Rest.{RestTexts, rest_texts, ReadsList, step_at, ReadsStep, ReadsSteps, ReadsToStep, IsUnfitRest, IsReadBeforeRest, list_line}
 use Rattle.mill_load.specs.Setup.{ReadsSetup}
 use Rattle.mill_run.proofs.Serving.{answer_serves, answer_shows, printed_shows, short_serves}
 
@@ -238,3 +242,12 @@ rest_serves job part list workers call l read ready loads (inr m) = short_serves
 -- the moves of the file that is read at a number of a list
 pub moves_at : (files : List CutFile) (f : ℕ) (file : CutFile) (moves : List Move) → f < length files → file ≡ slice_index_or files f file → moves ≡ file.moves → moves ≡ (file_at files f).moves
 moves_at files f file moves there is same = same ∙ ap (λ (x : CutFile). x.moves) (is ∙ get_or_default files f file _ there)
+
+-- ---- the line of files that are accepted
+
+-- by numbers as the machine stores them
+pub accepted_line : (job : JobFields) (count moves columns f : ℕ) (left l o s : ℤ) → f ≡ count → l ≡ left → o ≡ job.overcut → s ≡ job.slack
+    → line (codes "accepted" ∷ codes "files" ∷ decimal f ∷ codes "moves" ∷ decimal moves ∷ codes "columns" ∷ decimal columns ∷ codes "left" ∷ canonical job.unit l ∷ margin_words job.unit o s)
+    ≡ list_line job [] (Accept count moves columns left)
+accepted_line job count moves columns f left l o s ef el eo es = λ t.
+    line (codes "accepted" ∷ codes "files" ∷ decimal (ef t) ∷ codes "moves" ∷ decimal moves ∷ codes "columns" ∷ decimal columns ∷ codes "left" ∷ canonical job.unit (el t) ∷ margin_words job.unit (eo t) (es t))

@@ -102,10 +102,10 @@ pub record RejectsFirst (call : Call) (files : Files) : Type 0 where
   pub named : NamesLeaf job part (uncut job) moves reason
   pub printed : IsWritten (verdict_line job moves (Reject reason)) call.sink call.sink_after
 
--- when `verify` answers 0, at no fraction of any move does a part point lie strictly inside the cutter, no rapid removes a column point left before it,
--- every column point left is covered by part or floor within allowance and band, and each column point at or under the part is left; where the job limits the depth of
--- cut, no feed removes a column point so deep under its top; where it has a holder, at no fraction of any move is a part point or a column point left before it strictly
--- inside the holder;
+-- when `verify` answers 0, wherever within the slack the machine's own tip is at each moment of each move: no part point lies deeper than the overcut in the cutter,
+-- nor a column point at or under the part; no rapid has a column point that may be left before it deeper than the graze in the cutter, and every column point that may
+-- be left at the end is covered by part or floor within allowance and band; where the job limits the depth of cut, no feed has a column point so deep under its top
+-- deeper than the graze in the cutter; where it has a holder, no part point is strictly inside the holder, nor a column point that may be left before the move;
 -- status 3 names exactly the first written test that fails
 pub record Headline (words : List (List ℕ)) (call : Call) : Type 0 where
   pub accepts : (files : Files) → AsksVerify words files → call.status ≡ 0 → AcceptsSafely call files

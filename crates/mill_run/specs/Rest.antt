@@ -20,7 +20,7 @@ use Rattle.mill_load.specs.declared.file.File.{File}
 use Rattle.mill_load.specs.declared.file.File.TheVariants.{List as ListFile, StepProgram}
 use Rattle.mill_load.specs.declared.load.Unfit.{Unfit}
 use Rattle.mill_load.specs.declared.load.Unfit.TheVariants.{TooLong, ListRefused, ProgramRefused}
-use Rattle.mill_answer.specs.Printed.{column_words}
+use Rattle.mill_answer.specs.Printed.{column_words, margin_words}
 use Rattle.mill_io.specs.Readings.{LastFails, Reading}
 use Rattle.mill_load.specs.Setup.{SetupTexts, setup_texts, AreSetupTold, FitsJobFile, IsTooLong, IsTooLongJob, ReadsSetup, IsUnfit, IsReadBefore}
 use Rattle.mill_load.specs.Programs.{IsProgramText, IsRefusedProgram}
@@ -178,8 +178,8 @@ abbrev pub NamesFileMove : List CutFile → ListVerdict → Type 0
 NamesFileMove files (Reject f reason) = (f < length files) × NamesMove (file_at files f).moves reason
 NamesFileMove files _ = Unit {0}
 
--- the line of a verdict, with lengths in the job's unit; a reason counts the moves of its file
+-- the line of a verdict, with lengths in the job's unit; an acceptance tells the margins that it was given with, and a reason counts the moves of its file
 abbrev pub list_line : JobFields → List CutFile → ListVerdict → List ℕ
-list_line job files (Accept count moves columns left) = line (codes "accepted" ∷ codes "files" ∷ decimal count ∷ codes "moves" ∷ decimal moves ∷ codes "columns" ∷ decimal columns ∷ codes "left" ∷ canonical job.unit left ∷ [])
+list_line job files (Accept count moves columns left) = line (codes "accepted" ∷ codes "files" ∷ decimal count ∷ codes "moves" ∷ decimal moves ∷ codes "columns" ∷ decimal columns ∷ codes "left" ∷ canonical job.unit left ∷ margin_words job.unit job.overcut job.slack)
 list_line job files (Reject f reason) = line (codes "rejected" ∷ codes "file" ∷ decimal f ∷ reason_words job.unit (file_at files f).moves reason)
 list_line job files (Left j i top) = line (codes "rejected" ∷ codes "left" ∷ column_words job.unit j i top)

@@ -56,6 +56,9 @@ sample_job n = record {
   max_cut = pos 0;
   holder = None;
   path_tol = None;
+  slack = pos 0;
+  overcut = pos 0;
+  graze = None;
 }
 
 -- ---- both

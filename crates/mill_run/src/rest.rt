@@ -1,5 +1,6 @@
 //! The command `rest`: the verdict on the programs of a list, in turn on one stock.
-ghost use Rattle.std.specs.Prelude.{◌≡◌, ◌-◌, ◌^◌, ◌<◌, ◌≤◌, ℕ, List, length, All, IfErr, IfOk, Option, Some};
+ghost use Rattle.std.specs.Prelude.{◌≡◌, ◌-◌, ◌^◌, ◌<◌, ◌≤◌, ℕ, List};
+ghost use Rattle.std.specs.Prelude.{[], length, All, IfErr, IfOk, Option, Some};
 ghost use Rattle.mill_command.specs.Requests.{rest as asks_rest};
 ghost use Rattle.mill_io.specs.Readings.{AreHeld};
 ghost use Rattle.mill_job.specs.Jobs.{FitsJob};
@@ -19,7 +20,7 @@ ghost use Rattle.mill_answer.specs.Statuses.{status_code};
 
 use mill_answer::Word::{Length, Number, Text};
 use mill_answer::{
-    Status, line_of, line_of_column, line_of_reason, tell_fault, tell_made, tell_memory,
+    Status, line_of_column, line_of_reason, line_with_margins, tell_fault, tell_made, tell_memory,
 };
 use mill_base::WantOfMemory;
 use mill_crew::Threaded;
@@ -269,19 +270,7 @@ fn line_of_list_verdict(
             moves,
             columns,
             most_left,
-        } => {
-            let words = [
-                Text(b"files"),
-                Number(u64::from(count)),
-                Text(b"moves"),
-                Number(moves),
-                Text(b"columns"),
-                Number(columns),
-                Text(b"left"),
-                Length(most_left, job.fields.unit),
-            ];
-            line_of(alloc, &[Text(b"accepted")], &words)
-        }
+        } => line_of_acceptance(alloc, job, count, moves, columns, most_left),
         ListVerdict::Reject { file, reason } => {
             let start = [Text(b"rejected"), Text(b"file"), Number(u64::from(file))];
             let rejected = &files[file as usize];
@@ -299,4 +288,31 @@ fn line_of_list_verdict(
             )
         }
     }
+}
+
+/// The line of so many files that are accepted.
+fn line_of_acceptance(
+    alloc: Global,
+    job: &Job,
+    files: u32,
+    moves: u64,
+    columns: u64,
+    most_left: i32,
+) -> Result<Vec<u8>, WantOfMemory>
+    ensures { IfOk result (λ made. made.items ≡ list_line job.now.fields []
+        (ListVerdict.Accept files moves columns most_left)) }
+{
+    let unit = job.fields.unit;
+    let words = [
+        Text(b"accepted"),
+        Text(b"files"),
+        Number(u64::from(files)),
+        Text(b"moves"),
+        Number(moves),
+        Text(b"columns"),
+        Number(columns),
+        Text(b"left"),
+        Length(most_left, unit),
+    ];
+    line_with_margins(alloc, &words, job.fields.overcut, job.fields.slack, unit)
 }

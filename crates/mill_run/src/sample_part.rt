@@ -24,12 +24,12 @@ pub fn sample_setup(alloc: Global, size: u32) -> Result<Setup, WantOfMemory>
 }
 
 /// The job over the sample part of a size.
+#[tactic(auto, unfolding(mill_job::specs::Jobs::HasRoom, mill_job::specs::Jobs::HolderHasRoom, mill_job::specs::Slack::graze_of))]
 fn sample_job(size: u32) -> Job
     requires { IsSize size }
     ensures { result.fields ≡ job_of size }
 {
-    let fields = sample_fields(size);
-    Job { fields }
+    Job::new(sample_fields(size))
 }
 
 /// Its numbers.
@@ -65,6 +65,9 @@ fn sample_fields(size: u32) -> JobFields
         max_cut: 0,
         holder: None,
         path_tol: None,
+        slack: 0,
+        overcut: 0,
+        graze: None,
     }
 }
 

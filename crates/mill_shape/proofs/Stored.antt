@@ -8,6 +8,7 @@ use Rattle.mill_base.proofs.Machine.{stored, kept}
 use Rattle.mill_base.specs.Numbers.{Within}
 use Rattle.mill_base.specs.Sizes.{HasRadius, IsSlope}
 use Rattle.mill_base.specs.declared.limits.TheConstants.{LOWEST_TIP, MAX_COORDINATE, MAX_WIDE_RADIUS}
+use Rattle.mill_shape.specs.declared.height.TheConstants.{HIGHEST_TIP}
 use Rattle.mill_shape.specs.Widths.{greatest_radius, length_width, tip_width, rise_width}
 
 -- in 128 bits: a comparison of what is stored is one of the numbers
@@ -55,7 +56,7 @@ pub radius_bound : (r : ℤ) (n : ℕ) → HasRadius r MAX_WIDE_RADIUS → n ≤
 radius_bound r n size under = let least = size.least in let most = size.within in omega (arith, ints)
 
 -- in 32 bits: a tip's height and a rise over it, whose sum is stored
-pub tip_small : (z : ℤ) → LOWEST_TIP ≤ℤ z → z ≤ℤ pos (MAX_COORDINATE + 16) → nat_abs z ≤ tip_width
+pub tip_small : (z : ℤ) → LOWEST_TIP ≤ℤ z → z ≤ℤ HIGHEST_TIP → nat_abs z ≤ tip_width
 tip_small z least most = omega (arith, ints)
 
 pub rise_small : (z : ℤ) → pos 0 ≤ℤ z → z ≤ℤ pos rise_width → nat_abs z ≤ rise_width

@@ -3,22 +3,26 @@ ghost use Rattle.mill_base.specs.Numbers.{square as square_of, Within};
 ghost use Rattle.mill_base.specs.declared.limits.TheConstants.{LOWEST_TIP, MAX_COORDINATE};
 ghost use Rattle.mill_base.specs.Sizes.{radius_of, surface as surface_of, IsWideCutter, IsCutHeight, cut_height_of};
 ghost use Rattle.mill_shape.specs.inner.Roots.{IsFloorRoot, IsCeilRoot};
+ghost use Rattle.mill_shape.specs.declared.height.TheConstants.{HIGHEST_TIP};
 ghost use Rattle.mill_shape.specs.Widths.{greatest_radius, greatest_area, rise_width};
 
 use mill_base::{Cutter, Pt3, ceil_root, floor_root};
+
+/// The greatest height of a tip that cuts: over the greatest coordinate by what a cutter is raised
+/// for a margin taken off it, and for its place not being whole.
+pub const HIGHEST_TIP: i32 = 528_000;
 
 /// The height to which the cutter, with its tip at `tip`, cuts the column at (x, y): the greatest
 /// whole height there that isn't strictly inside the cutter. There is none exactly where the column
 /// isn't strictly within the radius.
 ///
-/// All lengths are in units. The tip may stand up to 16 over the greatest coordinate: so
-/// far a narrowed cutter is raised.
+/// All lengths are in units, and the tip stands at most at `HIGHEST_TIP`.
 pub fn cut_height(cutter: Cutter, tip: Pt3, x: i32, y: i32) -> Option<i32>
     requires cutter_ok { IsWideCutter cutter }
     requires tip_x_ok { Within MAX_COORDINATE tip.x }
     requires tip_y_ok { Within MAX_COORDINATE tip.y }
     requires tip_z_least { LOWEST_TIP ≤ℤ tip.z }
-    requires tip_z_most { tip.z ≤ℤ pos (MAX_COORDINATE + 16) }
+    requires tip_z_most { tip.z ≤ℤ HIGHEST_TIP }
     requires x_ok { Within MAX_COORDINATE x }
     requires y_ok { Within MAX_COORDINATE y }
     ensures value { result ≡ cut_height_of cutter tip x y }

@@ -12,7 +12,7 @@ mod laws;
 mod resize;
 mod solid;
 
-pub use height::cut_height;
+pub use height::{HIGHEST_TIP, cut_height};
 pub use laws::holds_over;
 pub use resize::{shrink, widen};
 pub use solid::inside;

@@ -1,14 +1,17 @@
--- Triangles and tops in range.
-use Rattle.std.proofs.Common.{◌≡◌, ◌⊎◌, ℕ, ◌<◌, inl, inr, sym, subst, length, get_or, arith}
+-- Triangles and tops in range, and points as they are read.
+use Rattle.std.proofs.Common.{◌≡◌, ◌⊎◌, ◌∙◌, ℕ, ◌<◌, inl, inr, sym, ap, subst, length, get_or, arith}
 use Rattle.std.specs.Prelude.{ℤ, pos, List, [], ◌∷◌, ◌++◌, All, Contains}
+use Rattle.std.proofs.lemmas.List.{get_or_default}
 use Rattle.std.proofs.lemmas.List.Elements.{Contains-push_cases}
+use Rattle.mill_base.specs.Points.{point_at}
 use Rattle.mill_base.specs.Ranges.{TriInUnitRange, TrisInUnitRange}
 use Rattle.mill_base.specs.declared.points.Tri.{Tri}
 use Rattle.mill_base.specs.declared.unit.Unit.{Unit}
 use Rattle.mill_job.specs.declared.fields.JobFields.{JobFields}
-use Rattle.mill_job.specs.Columns.{column_count}
+use Rattle.mill_job.specs.Columns.{column_count, column_x, column_y}
 use Rattle.mill_job.specs.Jobs.{IsFrom}
-use Rattle.mill_dexel.specs.Rows.{RowState, IsRowOf}
+use Rattle.mill_dexel.specs.Rows.{RowState, IsRowOf, uncut_row}
+use Rattle.mill_surface.specs.Surfaces.{point_in}
 
 one_more_tri : (unit : Unit) (tris : List Tri) (tri : Tri) → TrisInUnitRange unit tris → TriInUnitRange unit tri → TrisInUnitRange unit (tris ++ tri ∷ [])
 one_more_tri unit tris tri all one = λ other member. by other (Contains-push_cases tris tri other member)
@@ -37,3 +40,10 @@ pub top_in_stock : (job : JobFields) (rows : List RowState) (j i : ℕ) (r : Row
 top_in_stock job rows j i r tops all there read same inside =
     let is : IsRowOf job r = subst (IsRowOf job) (sym read) (all j r there) in
     subst (λ (ts : List ℤ). IsFrom job.floor job.top (get_or ts i (pos 0))) (sym same) (is.in_stock i (pos 0) (omega (arith, is.columns, inside)))
+
+-- the point at a column's top, by what is read of it
+pub point_read : (job : JobFields) (rows : List RowState) (j i : ℕ) (r : RowState) (tops : List ℤ) (x y : ℤ) → j < length rows → r ≡ get_or rows j r → tops ≡ r.tops
+    → x ≡ column_x job i → y ≡ column_y job j → point_at x y (get_or tops i (pos 0)) ≡ point_in job rows j i
+point_read job rows j i r tops x y there read same x_is y_is =
+    let tops_are = same ∙ ap (λ (row : RowState). row.tops) (read ∙ get_or_default rows j r (uncut_row job j) there) in
+    λ t. point_at (x_is t) (y_is t) (get_or (tops_are t) i (pos 0))

@@ -3,7 +3,7 @@ ghost use Rattle.mill_base.specs.Numbers.{Within};
 ghost use Rattle.mill_base.specs.declared.limits.TheConstants.{MAX_COORDINATE};
 ghost use Rattle.mill_base.specs.Ranges.{MoveInRange};
 ghost use Rattle.mill_base.specs.Sizes.{IsCutter};
-ghost use Rattle.mill_base.specs.Solids.{lifted};
+ghost use Rattle.mill_base.specs.Solids.{IsLift, IsSolid, lifted};
 ghost use Rattle.mill_sweep.specs.Reach.{OutOfReachPasses, reach_box_of, low_end_of, margin_of, low_side_of, high_side_of};
 
 use mill_base::{Box2, Cutter, MAX_COORDINATE, MAX_LAST_REACH, Move, Solid};
@@ -17,6 +17,7 @@ pub fn reach_box(solid: Solid, step: &Move) -> (Box2, i32)
     requires { MoveInRange step.now }
     ensures area { result.0 ≡ reach_box_of solid.cutter step.now }
     ensures low { result.1 ≡ low_end_of (lifted solid step.now) }
+    ensures solid_ok { IsSolid solid }
 {
     (area_about(solid.cutter(), step), way_end(solid, step))
 }
@@ -30,7 +31,8 @@ pub fn out_of_reach_passes()
 /// The height of the lower end of the solid's way.
 fn way_end(solid: Solid, step: &Move) -> i32
     requires { MoveInRange step.now }
-    ensures { result ≡ low_end_of (lifted solid step.now) }
+    ensures value { result ≡ low_end_of (lifted solid step.now) }
+    ensures lift_ok { IsLift solid.lift }
 {
     lower_end(step) + solid.lift()
 }

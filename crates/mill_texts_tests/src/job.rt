@@ -1,8 +1,8 @@
 // Jobs that are read, and the faults for which others are refused.
 //
-// Each table is one text: the proof of a test then costs the same however many rows there are. A row
-// is a line `OLD => NEW => SAYS`: EXAMPLE with NEW in the place of OLD, and what is said of it. There
-// `\n` is a line's end.
+// Each table is one text: the proof of a test then costs the same however many rows there are. A
+// row is a line `OLD => NEW => SAYS`: EXAMPLE with NEW in the place of OLD, and what is said of it.
+// There `\n` is a line's end.
 use crate::tables::{same, text_of_row};
 use mill_base::{Box2, Cutter, Pt3, Solid, Tool, Unit};
 use mill_decimal::Snap;
@@ -80,6 +80,9 @@ const JOB: JobFields = JobFields {
     max_cut: 0,
     holder: None,
     path_tol: None,
+    slack: 0,
+    overcut: 0,
+    graze: None,
 };
 
 /// What is said of a text: the job as it is, and its levels, or its fault.
@@ -167,9 +170,17 @@ band = 0 => band = 0\nmax_cut = 131071 => snap: Nearest, max_cut: 131071
 band = 0 => band = 0\nmax_cut = 0 => snap: Nearest, max_cut: 0
 band = 0 => band = 0\nstickout = 131071\nholder_radius = 151 => holder: Some(Solid { cutter: Flat { radius: 151 }, lift: 131071 })
 band = 0 => band = 0\nholder_radius = 10000\nstickout = 1 => holder: Some(Solid { cutter: Flat { radius: 10000 }, lift: 1 })
-band = 0 => band = 0\nmax_cut = 0 => holder: None, path_tol: None }
-band = 0 => band = 0\npath_tol = 0 => holder: None, path_tol: Some(0) }
-band = 0 => band = 0\npath_tol = 10000 => holder: None, path_tol: Some(10000) }
+band = 0 => band = 0\nmax_cut = 0 => path_tol: None, slack: 0, overcut: 0, graze: None }
+band = 0 => band = 0\npath_tol = 0 => holder: None, path_tol: Some(0), slack: 0
+band = 0 => band = 0\npath_tol = 10000 => holder: None, path_tol: Some(10000), slack: 0
+band = 0 => band = 0\nslack = 0\novercut = 0\ngraze = 0 => slack: 0, overcut: 0, graze: Some(0) }
+band = 0 => band = 0\nslack = 72 => slack: 72, overcut: 0, graze: None }
+band = 0 => band = 0\novercut = 149 => slack: 0, overcut: 149, graze: None }
+band = 0 => band = 0\ngraze = 149 => slack: 0, overcut: 0, graze: Some(149) }
+band = 0 => band = 0\nslack = 10\ngraze = 20 => slack: 10, overcut: 0, graze: Some(20) }
+"flat" => "cone"\nrise = 4\nrun = 3\nslack = 2\ngraze = 5 => slack: 2, overcut: 0, graze: Some(5) }
+"flat" => "cone"\nrise = 4\nrun = 3\nslack = 60 => slack: 60, overcut: 0, graze: None }
+band = 0 => band = 0\nholder_radius = 151\nstickout = 51\nslack = 50 => slack: 50, overcut: 0
 band = 0 => band = 0\nlevels = [] => with levels []
 band = 0 => band = 0\nlevels = [0] => with levels [0]
 band = 0 => band = 0\nlevels = [299] => with levels [299]
@@ -238,6 +249,26 @@ band = 0 => band = 0\npath_tol = -1 => path_tol out of range
 band = 0 => band = 0\npath_tol = 10001 => path_tol out of range
 band = 0 => band = 0\nholder_radius = 200\npath_tol = -1 => missing stickout
 band = 0 => band = 151\npath_tol = 10001 => path_tol out of range
+band = 0 => band = 0\nslack = 1.0 => wrong kind of slack
+band = 0 => band = 0\nslack = -1\novercut = -1 => slack out of range
+band = 0 => band = 0\nslack = 201 => slack out of range
+band = 0 => band = 0\npath_tol = -1\nslack = 201 => path_tol out of range
+band = 0 => band = 0\novercut = "1" => wrong kind of overcut
+band = 0 => band = 0\novercut = -1\ngraze = -1 => overcut out of range
+band = 0 => band = 0\novercut = 501 => overcut out of range
+band = 0 => band = 0\ngraze = [1] => wrong kind of graze
+band = 0 => band = 0\ngraze = -1 => graze out of range
+band = 0 => band = 151\ngraze = 501 => graze out of range
+band = 0 => band = 0\nslack = 150\novercut = 150 => slack doesn't fit radius
+band = 0 => band = 0\novercut = 150\ngraze = 150 => overcut doesn't fit radius
+band = 0 => band = 0\ngraze = 150 => graze doesn't fit radius
+band = 0 => band = 0\nslack = 73 => graze doesn't fit radius
+band = 0 => band = 0\nslack = 76\ngraze = 150 => graze doesn't fit radius
+band = 0 => band = 0\nslack = 10\ngraze = 19 => graze doesn't fit slack
+"flat" => "cone"\nrise = 4\nrun = 3\nslack = 2\ngraze = 4 => graze doesn't fit slack
+"flat" => "cone"\nrise = 4\nrun = 3\nslack = 61 => slack doesn't fit clear
+band = 0 => band = 0\nholder_radius = 151\nstickout = 50\nslack = 50 => slack doesn't fit stickout
+band = 0 => band = 0\nholder_radius = 150\nstickout = 9\nslack = 9 => radius doesn't fit holder_radius
 band = 0 => band = 0\nlevel = [1] => unknown level
 band = 0 => band = 0\nlevels = 5 => wrong kind of levels
 band = 0 => band = 0\nlevels = [5, 4.0] => wrong kind of levels
@@ -256,6 +287,68 @@ floor = 0 => floor = -701\nlayer = 1 => layer doesn't fit top"#;
 #[test]
 fn refuses_other_texts(rt: HostRuntime) -> Result<(), Fail> {
     each_is_refused(&rt, rt.alloc(), EXAMPLE, REFUSED)
+}
+
+/// A job with the greatest slack, and with the greatest radius and the least clear height for it.
+const LOOSE: &str = "cutter = \"flat\"
+radius = 9800
+floor = 0
+top = 300
+clear = 500
+area = [0, 0, 200, 200]
+home = [100, 90]
+pitch = 100
+sample = 50
+allowance = 0
+band = 0
+slack = 200
+";
+
+const LOOSE_READ: &str = r#"slack = 200 => slack = 200 => slack: 200, overcut: 0, graze: None }
+slack = 200 => slack = 200\novercut = 500\ngraze = 500 => overcut: 500, graze: Some(500) }
+slack = 200 => slack = 200\ngraze = 400 => slack: 200, overcut: 0, graze: Some(400) }
+9800 => 406 => slack: 200, overcut: 0, graze: None }
+9800 => 406\nholder_radius = 9800\nstickout = 201 => Flat { radius: 9800 }, lift: 201 })"#;
+
+const LOOSE_REFUSED: &str = r#"9800 => 9801 => slack doesn't fit radius
+9800 => 200 => slack doesn't fit radius
+9800 => 405 => graze doesn't fit radius
+slack = 200 => slack = 200\ngraze = 399 => graze doesn't fit slack
+9800 => 406\nholder_radius = 9801\nstickout = 201 => slack doesn't fit stickout
+9800 => 406\nholder_radius = 9800\nstickout = 200 => slack doesn't fit stickout
+clear = 500 => clear = 499 => slack doesn't fit clear
+clear = 500 => clear = 499\nholder_radius = 10000\nstickout = 1 => slack doesn't fit stickout"#;
+
+#[test]
+fn reads_the_greatest_slack(rt: HostRuntime) -> Result<(), Fail> {
+    each_is_read(&rt, rt.alloc(), LOOSE, LOOSE_READ)
+}
+
+#[test]
+fn refuses_too_much_slack(rt: HostRuntime) -> Result<(), Fail> {
+    each_is_refused(&rt, rt.alloc(), LOOSE, LOOSE_REFUSED)
+}
+
+/// The graze of EXAMPLE, and of others.
+const GRAZES: &str = r#"band = 0 => band = 0 => 0
+band = 0 => band = 0\nslack = 1 => 7
+band = 0 => band = 0\nslack = 72 => 149
+band = 0 => band = 0\nslack = 1\ngraze = 2 => 2
+band = 0 => band = 0\ngraze = 149 => 149"#;
+
+fn has_graze<R: Abort>(rt: &R, alloc: Global, row: &str) -> Result<(), Fail> {
+    let (text, says) = text_of_row(alloc, EXAMPLE, row)?;
+    let graze = read_job(alloc, text.as_bytes())?.graze();
+    same(rt, &format!(in alloc; "{graze}")?, says, row);
+    Ok(())
+}
+
+#[test]
+fn a_job_has_a_graze(rt: HostRuntime) -> Result<(), Fail> {
+    for row in GRAZES.lines() {
+        has_graze(&rt, rt.alloc(), row)?;
+    }
+    Ok(())
 }
 
 /// EXAMPLE with another area and pitch.
@@ -308,7 +401,8 @@ fn refuses_65_levels(rt: HostRuntime) -> Result<(), Fail> {
     Ok(())
 }
 
-/// FAULTY's first fault, what mends it, and so on: each repair mends the first of those that are left.
+/// FAULTY's first fault, what mends it, and so on: each repair mends the first of those that are
+/// left.
 const REPAIRS: &str = r#"unknown depth => depth = 1 => #
 wrong kind of cutter => cutter = 1 => cutter = "cone"
 radius out of range => radius = 0 => radius = 150

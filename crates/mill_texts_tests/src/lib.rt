@@ -1,5 +1,5 @@
-//! The tests of the crates on jobs, lists, words of the command line, files and numbers, by their public
-//! calls.
+//! The tests of the crates on jobs, lists, words of the command line, files and numbers, by their
+//! public calls.
 //!
 //! They stand apart, since a crate with tests of its own is proved twice, with them and without.
 #![tactic(auto)]

@@ -23,6 +23,25 @@ holder_radius = 160
 stickout = 50
 ";
 
+/// A job with a slack, an overcut and a graze, in which there is no band.
+const LOOSE: &str = "cutter = \"flat\"
+radius = 150
+floor = 0
+top = 300
+clear = 400
+area = [0, 0, 200, 200]
+home = [100, 90]
+pitch = 100
+sample = 50
+allowance = 0
+band = 0
+holder_radius = 160
+stickout = 50
+slack = 20
+overcut = 30
+graze = 40
+";
+
 const EXAMPLE: &str =
     r#"steps = [{ program = "rough.ngc", cutter = "ball", radius = 150 }, { program = "b/2.ngc", cutter = "cone", radius = 100, rise = 16, run = 1 }]"#;
 
@@ -40,13 +59,18 @@ fn told(alloc: Global, steps: &[Step]) -> Result<String, Fail> {
     Ok(told)
 }
 
-/// What is said of a list: its steps, or the fault.
-fn answer(alloc: Global, text: &[u8]) -> Result<String, Fail> {
-    let job = read_job(alloc, JOB.as_bytes())?;
+/// What is said of a list for a job: its steps, or the fault.
+fn answer_for(alloc: Global, job: &str, text: &[u8]) -> Result<String, Fail> {
+    let job = read_job(alloc, job.as_bytes())?;
     match read_list(alloc, text, &job) {
         Ok(steps) => told(alloc, &steps),
         Err(fault) => Ok(format!(in alloc; "{fault}")?),
     }
+}
+
+/// What is said of a list for JOB.
+fn answer(alloc: Global, text: &[u8]) -> Result<String, Fail> {
+    answer_for(alloc, JOB, text)
 }
 
 fn is_answered<R: Abort>(rt: &R, alloc: Global, text: &[u8], says: &str) -> Result<(), Fail> {
@@ -113,6 +137,30 @@ radius = 150 }, { => radius = 150 }, { depth = 1, => unknown depth"#;
 fn answers_lists(rt: HostRuntime) -> Result<(), Fail> {
     for row in ROWS.lines() {
         row_is_answered(&rt, rt.alloc(), row)?;
+    }
+    Ok(())
+}
+
+/// Lists for LOOSE.
+const LOOSE_ROWS: &str =
+    r#"rise = 16, run = 1 => rise = 3, run = 4 => rough.ngc by Ball { radius: 150 };b/2.ngc by Cone { radius: 100, rise: 3, run: 4 };
+150 => 160 => radius doesn't fit holder_radius
+150 => 20 => slack doesn't fit radius
+150 => 30 => overcut doesn't fit radius
+150 => 40 => graze doesn't fit radius
+rise = 16, run = 1 => rise = 4, run = 3 => graze doesn't fit slack
+steps => steps => slack doesn't fit clear"#;
+
+fn loose_row_is_answered<R: Abort>(rt: &R, alloc: Global, row: &str) -> Result<(), Fail> {
+    let (text, says) = text_of_row(alloc, EXAMPLE, row)?;
+    same(rt, &answer_for(alloc, LOOSE, text.as_bytes())?, says, row);
+    Ok(())
+}
+
+#[test]
+fn answers_lists_with_slack(rt: HostRuntime) -> Result<(), Fail> {
+    for row in LOOSE_ROWS.lines() {
+        loose_row_is_answered(&rt, rt.alloc(), row)?;
     }
     Ok(())
 }

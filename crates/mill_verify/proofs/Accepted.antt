@@ -14,11 +14,12 @@ use Rattle.mill_verify.specs.Claims.{CutsSafely}
 use Rattle.mill_verify.specs.declared.verdict.Verdict.{Verdict}
 use Rattle.mill_verify.specs.declared.verdict.Verdict.TheVariants.{Accept, Reject}
 use Rattle.mill_dexel.proofs.Removal.{over_top_is_removed, passed_is_left}
+use Rattle.mill_margin.proofs.Growing.{grown_holds}
 use Rattle.mill_verify.proofs.Safe.{safe}
 
 accepted : (job : JobFields) (part : List Tri) (moves : List Move) (count columns : ℕ) (left : ℤ) → IsJob job → MovesInRange moves → AcceptsOn job part (uncut job) moves count columns left → CutsSafely job part moves
 accepted job part moves count columns left ok moves_ok a =
-    safe job part moves ok moves_ok passing_is_clear passing_keeps_point over_top_is_removed passed_is_left covered_below holds_over count columns left a
+    safe job part moves ok moves_ok grown_holds passing_is_clear passing_keeps_point over_top_is_removed passed_is_left covered_below holds_over count columns left a
 
 -- if the verdict is an acceptance, the program cuts safely
 pub accepted_is_safe : (job : JobFields) (part : List Tri) (moves : List Move) (v : Verdict) → IsJob job → MovesInRange moves → IsVerdict job part moves v

@@ -6,6 +6,8 @@ use Rattle.std.proofs.lemmas.List.{get_or_default, take_all}
 use Rattle.std.proofs.lemmas.List.Sums.{fold_more}
 use Rattle.mill_base.specs.declared.motion.Move.{Move}
 use Rattle.mill_base.specs.declared.points.Tri.{Tri}
+use Rattle.mill_base.specs.Ranges.{MovesInRange}
+use Rattle.mill_base.specs.declared.limits.TheConstants.{MAX_MOVES}
 use Rattle.mill_job.specs.declared.fields.JobFields.{JobFields}
 use Rattle.mill_job.specs.Columns.{IsColumn}
 use Rattle.mill_job.specs.Jobs.{IsJob}
@@ -131,6 +133,13 @@ module _ (job : JobFields) (part : List Tri) (files : List File) (n : ℕ) (ok :
 
   pub starts_so : IsStart its start
   starts_so = subst (λ (v : JobFields). IsStart v start) (sym its_is) (start_as job file start so_far.is_start)
+
+  -- its moves are those of a file of the job
+  pub moves_so : All (IsFileOf job) files → MovesInRange moves × (length moves ≤ MAX_MOVES)
+  moves_so all =
+      let its_ok = file_ok job files n all there in
+      let same : moves ≡ (file_at files n).moves = are ∙ ap (λ (f : File). f.moves) file_is in
+      rw same (its_ok.moves_ok, its_ok.few)
 
   by_name : (P : JobFields → List Move → Type 0) → P its moves → P (job_of job (file_at files n)) (file_at files n).moves
   by_name P p =

@@ -10,6 +10,8 @@ mod Remaining
 mod Stored
 pub mod Unique
 mod Safe
+mod Plain
+mod Between
 mod Accepted
 mod Scanning
 mod Sharing

@@ -2,13 +2,14 @@
 use Rattle.std.specs.Prelude.{◌≡◌, ℕ, ◌<◌, List, length, Some}
 use Rattle.mill_base.specs.Points.{point_tri, tri_at}
 use Rattle.mill_base.specs.Ranges.{MoveInRange, MovesInRange}
-use Rattle.mill_base.proofs.SolidLemmas.{cutter_is_solid}
-use Rattle.mill_base.specs.Solids.{IsSolid, Solid, at_tip}
+use Rattle.mill_base.specs.Solids.{IsSolid, Solid}
 use Rattle.mill_base.specs.declared.points.Tri.{Tri}
 use Rattle.mill_base.specs.declared.motion.Move.{Move}
 use Rattle.mill_base.specs.declared.motion.Kind.TheVariants.{Rapid, Feed}
+use Rattle.mill_job.specs.Solids.{holder_solid_of, part_solid_of, stock_solid_of}
 use Rattle.mill_job.specs.declared.fields.JobFields.{JobFields}
 use Rattle.mill_job.specs.Jobs.{IsJob}
+use Rattle.mill_job.proofs.SolidFacts.{holder_solid_ok, part_solid_ok, stock_solid_ok}
 use Rattle.mill_dexel.specs.Tops.{Stock, tested_point_on, top_point_on}
 use Rattle.mill_dexel.specs.Turns.{move_at}
 use Rattle.mill_sweep.specs.declared.leaf.Leaf.{Leaf}
@@ -31,25 +32,22 @@ module _ (failing_is_blocked : FailingIsBlocked) (job : JobFields) (part : List 
       → BlocksLeaf solid (move_at moves k) leaf tri
   leaf_named solid ok k leaf tri there fails shown = record { last = (failing_is_blocked solid (move_at moves k) tri leaf ok (in_range k there) fails).0; blocks = shown }
 
-  cutter_ok : IsSolid (at_tip job.cutter)
-  cutter_ok = cutter_is_solid job.cutter job_ok.cutter_ok
-
   -- the holder's
-  held_named : (k : ℕ) (leaf : Leaf) (tri : Tri) (holder : Solid) → job.holder ≡ Some holder → k < length moves → SolidFailsAt holder (move_at moves k) tri leaf → BlocksHeld job moves k leaf tri
+  held_named : (k : ℕ) (leaf : Leaf) (tri : Tri) (holder : Solid) → (holder_solid_of job) ≡ Some holder → k < length moves → SolidFailsAt holder (move_at moves k) tri leaf → BlocksHeld job moves k leaf tri
       → BlocksHolder job moves k leaf tri
   held_named k leaf tri holder mounted there fails shown = record {
     holder = holder;
     mounted = mounted;
-    blocks = leaf_named holder (of_some IsSolid job.holder holder mounted job_ok.holder_ok) k leaf tri there fails
-        (of_some (λ (h : Solid). SolidIsBlocked h (move_at moves k) tri leaf) job.holder holder mounted shown);
+    blocks = leaf_named holder (of_some IsSolid (holder_solid_of job) holder mounted (holder_solid_ok job job_ok)) k leaf tri there fails
+        (of_some (λ (h : Solid). SolidIsBlocked h (move_at moves k) tri leaf) (holder_solid_of job) holder mounted shown);
   }
 
   names : (reason : Reason) → IsRejectionOn job part start moves reason → ShowsBlock job part start moves reason → NamesLeaf job part start moves reason
   names (Floor k) h shown = tt
-  names (Gouge k t leaf) h shown = leaf_named (at_tip job.cutter) cutter_ok k leaf (tri_at part t) h.there h.fails shown
+  names (Gouge k t leaf) h shown = leaf_named (part_solid_of job) (part_solid_ok job job_ok) k leaf (tri_at part t) h.there h.fails shown
   names (Holder k t leaf) h shown = held_named k leaf (tri_at part t) h.holder h.mounted h.there h.fails shown
-  names (RapidCut k j i leaf) h shown = leaf_named (at_tip job.cutter) cutter_ok k leaf (point_tri (tested_point_on job Rapid (stock_met job start moves k) j i)) h.there h.fails shown
-  names (Cut k j i leaf) h shown = leaf_named (at_tip job.cutter) cutter_ok k leaf (point_tri (tested_point_on job Feed (stock_met job start moves k) j i)) h.there h.fails shown
+  names (RapidCut k j i leaf) h shown = leaf_named (stock_solid_of job) (stock_solid_ok job job_ok) k leaf (point_tri (tested_point_on job Rapid (stock_met job start moves k) j i)) h.there h.fails shown
+  names (Cut k j i leaf) h shown = leaf_named (stock_solid_of job) (stock_solid_ok job job_ok) k leaf (point_tri (tested_point_on job Feed (stock_met job start moves k) j i)) h.there h.fails shown
   names (HolderStock k j i leaf) h shown = held_named k leaf (point_tri (top_point_on job (stock_met job start moves k) j i)) h.holder h.mounted h.there h.fails shown
   names (Left j i top) h shown = tt
 

@@ -1,4 +1,4 @@
--- An accepted program cuts safely, by the laws of the layers below.
+-- An accepted program cuts safely, wherever within the slack the machine's own tip is, by the laws of the layers below.
 use Rattle.std.specs.Prelude.{◌≡◌, ℕ, ◌+◌, ◌<◌, ℤ, pos, ◌-ℤ◌, ◌+ℤ◌, ◌*ℤ◌, ◌<ℤ◌, ◌≤ℤ◌, List, Contains, length, take, drop, slice_index_or, [], ◌∷◌, zero, suc, negsuc, int_lt, Bool, true, false, Some, refl}
 use Rattle.std.proofs.Common.{sym, subst, ap, inl, inr, arith, ◌∙◌}
 use Rattle.std.proofs.lemmas.Int.{ints}
@@ -6,22 +6,29 @@ use lib.IntN.{*ℤ_comm}
 use borrow.Author.Differences.{same_in}
 use Rattle.std.proofs.lemmas.List.{get_or_read, take-append-drop, take_more}
 use Rattle.std.proofs.lemmas.List.Elements.{Contains-append_left}
+use Rattle.mill_base.specs.declared.points.Pt3.{Pt3}
 use Rattle.mill_base.specs.declared.points.Tri.{Tri}
 use Rattle.mill_base.specs.declared.motion.Move.{Move}
 use Rattle.mill_base.specs.declared.motion.Kind.{Kind}
 use Rattle.mill_base.specs.declared.motion.Kind.TheVariants.{Rapid}
 use Rattle.mill_base.specs.Numbers.{square}
-use Rattle.mill_base.specs.declared.cutter.Cutter.{Cutter}
 use Rattle.mill_base.specs.Motion.{IsMoment, tip_at}
-use Rattle.mill_base.specs.Solids.{IsSolid, Solid, SolidGouges, SolidHolds, at_tip}
-use Rattle.mill_base.specs.Contact.{GougesOn, Holds, HoldsOver, Removes}
+use Rattle.mill_base.specs.Solids.{IsSolid, Solid, SolidGouges, SolidHolds, solid_tip}
+use Rattle.mill_base.specs.Sizes.{IsCutter}
+use Rattle.mill_base.specs.Contact.{Holds, HoldsOver}
 use Rattle.mill_base.specs.Covers.{CoveredBelow, HasPointOver}
 use Rattle.mill_base.specs.Ranges.{IsInRange, MoveInRange, MovesInRange}
+use Rattle.mill_base.specs.declared.limits.TheConstants.{MAX_COORDINATE}
 use Rattle.mill_sweep.specs.Moments.{PassingIsClear, PassingKeepsPoint}
 use Rattle.mill_sweep.specs.Solids.{SolidPasses, SolidPassesPoint}
+use Rattle.mill_margin.specs.Laws.{GrownHolds}
+use Rattle.mill_margin.specs.Margins.{grown}
 use Rattle.mill_job.specs.declared.fields.JobFields.{JobFields}
 use Rattle.mill_job.specs.Jobs.{IsJob}
+use Rattle.mill_job.specs.Slack.{graze_of}
+use Rattle.mill_job.specs.Solids.{held_with, holder_solid_of, part_solid_of, stock_solid_of}
 use Rattle.mill_job.specs.Columns.{IsColumn, column_x, column_y}
+use Rattle.mill_job.proofs.SolidFacts.{graze_core_ok, holder_solid_ok, overcut_core_ok, part_solid_ok, stock_solid_ok}
 use Rattle.mill_gouge.specs.Gouges.{PassesPart}
 use Rattle.mill_dexel.specs.Stocks.{IsStockOf}
 use Rattle.mill_dexel.specs.Tops.{Stock, stock_after, tested_height, tested_point_on, top_after_move, top_on, top_point_on, uncut}
@@ -29,7 +36,6 @@ use Rattle.mill_dexel.specs.Laws.{OverTopIsRemoved, PassedIsLeft}
 use Rattle.mill_dexel.proofs.RowLaws.{top_on_more}
 use Rattle.mill_dexel.proofs.TopLaws.{stock_stays, uncut_stays}
 use Rattle.mill_base.proofs.Ranges.{within_of_unit}
-use Rattle.mill_base.proofs.SolidLemmas.{cutter_is_solid}
 use Rattle.mill_verify.proofs.Mounted.{if_some, of_some}
 use Rattle.mill_verify.proofs.Ranges.{column_within, stock_within}
 use Rattle.mill_verify.proofs.Depths.{clears_as, tested_deep, tested_each, tested_high, tested_within}
@@ -37,7 +43,7 @@ use Rattle.mill_verify.specs.Tests.{GoodBeforeOn, IsCutOn, PassesColumnOn, stock
 use Rattle.mill_dexel.specs.Turns.{move_at}
 use Rattle.mill_base.specs.Points.{point_at, tri_at}
 use Rattle.mill_verify.specs.Verdicts.{AcceptsOn}
-use Rattle.mill_verify.specs.Claims.{AreCovered, CutsSafely, HolderKeepsClearOf, HolderStaysClear, IsColumnPoint, KeepsDepthOn, LeavesPoint, NeverGouges, PartIsLeft, Points, PointsMet, RapidsMiss, left_before}
+use Rattle.mill_verify.specs.Claims.{AreCovered, CutsSafely, HolderKeepsClearOf, HolderStaysClear, IsColumnPoint, IsRealTip, KeepsDepthOn, KeepsPart, LeavesPoint, NeverGouges, Points, PointsMet, RapidsMiss, column_point, core, left_before}
 
 not_over : (a b : ℤ) → ¬ (a <ℤ b) → b ≤ℤ a
 not_over a b h = by (int_lt a b) refl
@@ -81,17 +87,17 @@ no_distance a b n h = no_less (square a) (square b) (square (n *ℤ pos 0)) (sq 
 abbrev pub AreUnderTop : JobFields → Stock → List Move → PointsMet → Type 0
 AreUnderTop job start moves Met = (k j i : ℕ) (h : ℤ) → IsColumnPoint job j i h → Met k j i h → h ≤ℤ stock_met job start moves k j i
 
--- where a part point is strictly inside no cutter, each column point under the part is left
-pub keeps_part : HoldsOver → (job : JobFields) (part : List Tri) (j i : ℕ) (h : ℤ) (cutter : Cutter) (move : Move) → HasPointOver part (pos 0) (column_x job i) (column_y job j) h
-    → ¬ GougesOn cutter move part → ¬ Removes cutter move (pos 1) (point_at (column_x job i) (column_y job j) h)
-keeps_part over job part j i h cutter move stands never removes =
-    never (record { k = removes.k; m = removes.m; moment = removes.moment; gouges = record { tri = stands.tri; member = stands.member; touches = record { n = stands.n; p = stands.p; point = stands.point; inside = held } } })
+-- what no part point is inside holds no point of a column at or under the part
+holds_no_column : HoldsOver → (part : List Tri) (x y h : ℤ) (solid : Solid) (n : ℤ) (r : Pt3) → (pos 0) <ℤ n → HasPointOver part (pos 0) x y h → ¬ SolidGouges solid n r part
+    → ¬ SolidHolds solid n r (pos 1) (point_at x y h)
+holds_no_column over part x y h solid n r some stands never holds =
+    never (record { tri = stands.tri; member = stands.member; touches = record { n = stands.n; p = stands.p; point = stands.point; inside = held } })
   where
-    at_column : (stands.p.x ≡ stands.n *ℤ column_x job i) × (stands.p.y ≡ stands.n *ℤ column_y job j)
+    at_column : (stands.p.x ≡ stands.n *ℤ x) × (stands.p.y ≡ stands.n *ℤ y)
     at_column = elim stands.beside [ inl h ↦ h | inr h ↦ absurd (no_distance _ _ stands.n h) ]
 
-    held : Holds cutter removes.m (tip_at move removes.k removes.m) stands.n stands.p
-    held = over cutter removes.m (tip_at move removes.k removes.m) stands.n stands.p (column_x job i) (column_y job j) h removes.moment.some stands.point.some removes.inside at_column.0 at_column.1 stands.high
+    held : Holds solid.cutter n (solid_tip solid n r) stands.n stands.p
+    held = over solid.cutter n (solid_tip solid n r) stands.n stands.p x y h some stands.point.some holds at_column.0 at_column.1 stands.high
 
 -- where the points that are left of a stock lie at or under its tops, they are covered
 pub are_covered : CoveredBelow → (job : JobFields) (part : List Tri) (stock : Stock) (Left : Points) → ((j i : ℕ) (h : ℤ) → IsColumnPoint job j i h → Left j i h → h ≤ℤ stock j i)
@@ -102,8 +108,28 @@ are_covered below job part stock Left under cut j i h point left =
     less_both : (a b c : ℤ) → a ≤ℤ b → (a -ℤ c) ≤ℤ (b -ℤ c)
     less_both a b c h = omega (h, arith, ints)
 
+-- the job's slack is one that the law of grown solids takes
+slack_least : (job : JobFields) → IsJob job → (pos 0) ≤ℤ job.slack
+slack_least job ok = ok.slack_ok.low
+
+slack_most : (job : JobFields) → IsJob job → job.slack ≤ℤ pos MAX_COORDINATE
+slack_most job ok = let most = ok.slack_ok.high in omega (most, arith, ints)
+
+-- what a solid holds at a real tip, it holds with the slack around it where the program has the tip
+module _ (law : GrownHolds) (job : JobFields) (ok : IsJob job) (solid : Solid) (size : IsCutter solid.cutter) (m : Move) (n : ℤ) (r : Pt3) (real : IsRealTip job.slack m n r) where
+  grown_holds : (q : ℤ) (p : Pt3) → (pos 0) <ℤ q → SolidHolds solid n r q p → SolidHolds (grown solid job.slack) real.d (tip_at m real.k real.d) q p
+  grown_holds q p some holds =
+      law solid job.slack real.d n q (tip_at m real.k real.d) r p size (slack_least job ok) (slack_most job ok) real.moment.some real.some some real.near holds
+
+  grown_gouges : (part : List Tri) → SolidGouges solid n r part → SolidGouges (grown solid job.slack) real.d (tip_at m real.k real.d) part
+  grown_gouges part g = record {
+    tri = g.tri;
+    member = g.member;
+    touches = record { n = g.touches.n; p = g.touches.p; point = g.touches.point; inside = grown_holds g.touches.n g.touches.p g.touches.point.some g.touches.inside };
+  }
+
 module _ (job : JobFields) (part : List Tri) (start : Stock) (moves : List Move) (ok : IsJob job) (start_ok : IsStockOf job start) (all_ok : MovesInRange moves) where
-  in_range : (k : ℕ) → k < length moves → MoveInRange (move_at moves k)
+  pub in_range : (k : ℕ) → k < length moves → MoveInRange (move_at moves k)
   in_range k hk = all_ok (move_at moves k) (k, hk, any_default moves k _ _ hk)
 
   -- the tops stay the job's
@@ -111,15 +137,12 @@ module _ (job : JobFields) (part : List Tri) (start : Stock) (moves : List Move)
   met_ok k = stock_stays job start (take k moves) start_ok
 
   -- the point at a column's top is in range
-  top_ok : (k j i : ℕ) → IsColumn job j i → IsInRange (top_point_on job (stock_met job start moves k) j i)
+  pub top_ok : (k j i : ℕ) → IsColumn job j i → IsInRange (top_point_on job (stock_met job start moves k) j i)
   top_ok k j i c = column_within ok c (stock_within ok (met_ok k j i c))
 
   -- and so is the one at which a move is tested
   tested_ok : (kind : Kind) (k j i : ℕ) → IsColumn job j i → IsInRange (tested_point_on job kind (stock_met job start moves k) j i)
   tested_ok kind k j i c = column_within ok c (tested_within kind (stock_met job start moves k j i) ok (met_ok k j i c))
-
-  cutter_ok : IsSolid (at_tip job.cutter)
-  cutter_ok = cutter_is_solid job.cutter ok.cutter_ok
 
   -- a solid that passes the part on each move has no part point strictly inside at any moment of any
   module _ (clear : PassingIsClear) (solid : Solid) (solid_ok : IsSolid solid) (each : (k : ℕ) → k < length moves → PassesPart solid (move_at moves k) part) where
@@ -128,17 +151,25 @@ module _ (job : JobFields) (part : List Tri) (start : Stock) (moves : List Move)
         let q : SolidPasses solid m (tri_at part t) = subst (λ (v : Move). SolidPasses solid v (tri_at part t)) (sym (move_is moves k m hk ek)) (each k hk t ht) in
         subst (λ (v : Tri). SolidPasses solid m v) (sym (tri_is part t tri ht et)) q
 
-    misses_part : (m : Move) (a n : ℤ) → Contains moves m → IsMoment a n → ¬ SolidGouges solid n (tip_at m a n) part
+    pub misses_part : (m : Move) (a n : ℤ) → Contains moves m → IsMoment a n → ¬ SolidGouges solid n (tip_at m a n) part
     misses_part m a n member moment g =
         clear solid m g.tri a n solid_ok (all_ok m member) (passes member.0 g.member.0 m g.tri member.1 member.2 g.member.1 g.member.2) moment g.touches
 
-  pub never_gouges : PassingIsClear → GoodBeforeOn job part start moves (length moves) → NeverGouges job part moves
-  never_gouges clear good m member g = misses_part clear (at_tip job.cutter) cutter_ok (λ k hk. (good k hk).clears) m g.k g.m member g.moment g.gouges
+  -- so it is of the cutter's core at each real tip
+  pub never_gouges : GrownHolds → PassingIsClear → GoodBeforeOn job part start moves (length moves) → NeverGouges job part moves
+  never_gouges law clear good m n r member real g =
+      misses_part clear (part_solid_of job) (part_solid_ok job ok) (λ k hk. (good k hk).clears) m real.k real.d member real.moment
+      (grown_gouges law job ok (core job job.overcut) (overcut_core_ok job ok) m n r real part g)
 
-  pub rapids_miss : PassingKeepsPoint → (Met : PointsMet) → AreUnderTop job start moves Met → GoodBeforeOn job part start moves (length moves) → RapidsMiss job moves Met
-  rapids_miss keeps Met under good k j i h hk rapid point met removes =
-      keeps (at_tip job.cutter) (move_at moves k) (column_x job i) (column_y job j) (stock_met job start moves k j i) h removes.k removes.m cutter_ok
-      (in_range k hk) (top_ok k j i point.column) (clears_as job start moves Rapid k rapid (good k hk).stock tt j i point.column) (under k j i h point met) removes.moment removes.inside
+  pub keeps_part : GrownHolds → PassingIsClear → HoldsOver → GoodBeforeOn job part start moves (length moves) → KeepsPart job part moves
+  keeps_part law clear over good m j i h n r member point stands real =
+      holds_no_column over part (column_x job i) (column_y job j) h (core job job.overcut) n r real.some stands (never_gouges law clear good m n r member real)
+
+  pub rapids_miss : GrownHolds → PassingKeepsPoint → (Met : PointsMet) → AreUnderTop job start moves Met → GoodBeforeOn job part start moves (length moves) → RapidsMiss job moves Met
+  rapids_miss law keeps Met under good k j i h n r hk rapid point met real holds =
+      keeps (stock_solid_of job) (move_at moves k) (column_x job i) (column_y job j) (stock_met job start moves k j i) h real.k real.d (stock_solid_ok job ok)
+      (in_range k hk) (top_ok k j i point.column) (clears_as job start moves Rapid k rapid (good k hk).stock tt j i point.column) (under k j i h point met) real.moment
+      (grown_holds law job ok (core job (graze_of job)) (graze_core_ok job ok) (move_at moves k) n r real (pos 1) (column_point job j i h) (omega (arith, ints)) holds)
 
   -- where the depth of cut is limited
   module _ (good : GoodBeforeOn job part start moves (length moves)) (limited : (pos 0) <ℤ job.max_cut) where
@@ -149,14 +180,15 @@ module _ (job : JobFields) (part : List Tri) (start : Stock) (moves : List Move)
     at_most : (a b c : ℤ) → a ≤ℤ b → b ≤ℤ c → a ≤ℤ c
     at_most a b c h g = omega (h, g, arith, ints)
 
-    -- so it removes no point as low as that
-    cuts_shallow : PassingKeepsPoint → (k j i : ℕ) (h : ℤ) → k < length moves → IsColumnPoint job j i h → h ≤ℤ (stock_met job start moves k j i -ℤ job.max_cut)
-        → ¬ Removes job.cutter (move_at moves k) (pos 1) (point_at (column_x job i) (column_y job j) h)
-    cuts_shallow keeps k j i h hk point deep removes =
+    -- so it takes no point as low as that
+    cuts_shallow : GrownHolds → PassingKeepsPoint → (k j i : ℕ) (h n : ℤ) (r : Pt3) → k < length moves → IsColumnPoint job j i h → h ≤ℤ (stock_met job start moves k j i -ℤ job.max_cut)
+        → IsRealTip job.slack (move_at moves k) n r → ¬ SolidHolds (core job (graze_of job)) n r (pos 1) (column_point job j i h)
+    cuts_shallow law keeps k j i h n r hk point deep real holds =
         let kind = (move_at moves k).kind in
         let top = stock_met job start moves k j i in
-        keeps (at_tip job.cutter) (move_at moves k) (column_x job i) (column_y job j) (tested_height job kind top) h removes.k removes.m cutter_ok (in_range k hk)
-        (tested_ok kind k j i point.column) (passes_each k j i hk point.column) (at_most _ _ _ deep (tested_deep job kind top limited)) removes.moment removes.inside
+        keeps (stock_solid_of job) (move_at moves k) (column_x job i) (column_y job j) (tested_height job kind top) h real.k real.d (stock_solid_ok job ok) (in_range k hk)
+        (tested_ok kind k j i point.column) (passes_each k j i hk point.column) (at_most _ _ _ deep (tested_deep job kind top limited)) real.moment
+        (grown_holds law job ok (core job (graze_of job)) (graze_core_ok job ok) (move_at moves k) n r real (pos 1) (column_point job j i h) (omega (arith, ints)) holds)
 
     -- one move more lowers a top by that move
     top_lowered : (k j i : ℕ) → k < length moves
@@ -164,70 +196,84 @@ module _ (job : JobFields) (part : List Tri) (start : Stock) (moves : List Move)
     top_lowered k j i hk =
         ap (top_on job (column_x job i) (column_y job j) (start j i)) (take_more moves k _ hk) ∙ top_on_more job (column_x job i) (column_y job j) (start j i) (take k moves) (move_at moves k)
 
-    -- and not under the point that it passes
-    tops_shallow : PassedIsLeft → (k j i : ℕ) → k < length moves → IsColumn job j i → (stock_met job start moves k j i -ℤ job.max_cut) ≤ℤ stock_met job start moves (k + 1) j i
-    tops_shallow left k j i hk column =
+    -- and, without a graze, not under the point that it passes
+    tops_shallow : PassedIsLeft → graze_of job ≡ pos 0 → (k j i : ℕ) → k < length moves → IsColumn job j i
+        → (stock_met job start moves k j i -ℤ job.max_cut) ≤ℤ stock_met job start moves (k + 1) j i
+    tops_shallow left bare k j i hk column =
         let kind = (move_at moves k).kind in
         let top = stock_met job start moves k j i in
         let high = tested_high kind top ok (met_ok k j i column).low in
         subst (λ (z : ℤ). (top -ℤ job.max_cut) ≤ℤ z) (sym (top_lowered k j i hk))
         (at_most _ _ _ (tested_deep job kind top limited)
-        (left job (move_at moves k) (column_x job i) (column_y job j) top (tested_height job kind top) ok.cutter_ok (in_range k hk)
-        (top_ok k j i column) (tested_ok kind k j i column) ok.sample_ok.low high (passes_each k j i hk column)))
+        (left job (move_at moves k) (column_x job i) (column_y job j) top (tested_height job kind top) ok bare (in_range k hk)
+        (top_ok k j i column) (tested_ok kind k j i column) high (passes_each k j i hk column)))
 
-  pub keeps_depth : PassingKeepsPoint → PassedIsLeft → GoodBeforeOn job part start moves (length moves) → KeepsDepthOn job start moves
-  keeps_depth keeps left good limited = record {
-    feeds = λ k j i h hk feed point deep. cuts_shallow good limited keeps k j i h hk point deep;
-    tops = tops_shallow good limited left;
+  pub keeps_depth : GrownHolds → PassingKeepsPoint → PassedIsLeft → GoodBeforeOn job part start moves (length moves) → KeepsDepthOn job start moves
+  keeps_depth law keeps left good limited = record {
+    feeds = λ k j i h n r hk feed point deep real. cuts_shallow good limited law keeps k j i h n r hk point deep real;
+    tops = λ bare. tops_shallow good limited left bare;
   }
 
   -- where there is a holder
   module _ (good : GoodBeforeOn job part start moves (length moves)) (Met : PointsMet) (under : AreUnderTop job start moves Met) (holder : Solid) (mounted : job.holder ≡ Some holder) where
-    holder_ok : IsSolid holder
-    holder_ok = of_some IsSolid job.holder holder mounted ok.holder_ok
+    with_slack : holder_solid_of job ≡ Some (grown holder job.slack)
+    with_slack = ap (held_with job.slack) mounted
+
+    around_ok : IsSolid (grown holder job.slack)
+    around_ok = of_some IsSolid (holder_solid_of job) (grown holder job.slack) with_slack (holder_solid_ok job ok)
+
+    size : IsCutter holder.cutter
+    size = (of_some IsSolid job.holder holder mounted ok.holder_ok).cutter_ok
 
     -- it passes each triangle on each move
-    holder_passes : (k : ℕ) → k < length moves → PassesPart holder (move_at moves k) part
-    holder_passes k hk = of_some (λ (h : Solid). PassesPart h (move_at moves k) part) job.holder holder mounted (good k hk).holder
+    holder_passes : (k : ℕ) → k < length moves → PassesPart (grown holder job.slack) (move_at moves k) part
+    holder_passes k hk = of_some (λ (h : Solid). PassesPart h (move_at moves k) part) (holder_solid_of job) (grown holder job.slack) with_slack (good k hk).holder
+
+    misses_all : GrownHolds → PassingIsClear → (m : Move) (n : ℤ) (r : Pt3) → Contains moves m → IsRealTip job.slack m n r → ¬ SolidGouges holder n r part
+    misses_all law clear m n r member real g =
+        misses_part clear (grown holder job.slack) around_ok holder_passes m real.k real.d member real.moment (grown_gouges law job ok holder size m n r real part g)
 
     -- and each column's top
-    misses_stock : PassingKeepsPoint → (k j i : ℕ) (h a n : ℤ) → k < length moves → IsColumnPoint job j i h → Met k j i h → IsMoment a n
-        → ¬ SolidHolds holder n (tip_at (move_at moves k) a n) (pos 1) (point_at (column_x job i) (column_y job j) h)
-    misses_stock keeps k j i h a n hk point met moment =
-        let each = of_some (λ (v : Solid). (b c : ℕ) → IsColumn job b c → SolidPassesPoint v (move_at moves k) (top_point_on job (stock_met job start moves k) b c)) job.holder holder mounted (good k hk).holder_stock in
-        keeps holder (move_at moves k) (column_x job i) (column_y job j) (stock_met job start moves k j i) h a n holder_ok
-        (in_range k hk) (top_ok k j i point.column) (each j i point.column) (under k j i h point met) moment
+    misses_stock : GrownHolds → PassingKeepsPoint → (k j i : ℕ) (h n : ℤ) (r : Pt3) → k < length moves → IsColumnPoint job j i h → Met k j i h → IsRealTip job.slack (move_at moves k) n r
+        → ¬ SolidHolds holder n r (pos 1) (column_point job j i h)
+    misses_stock law keeps k j i h n r hk point met real holds =
+        let each = of_some (λ (v : Solid). (b c : ℕ) → IsColumn job b c → SolidPassesPoint v (move_at moves k) (top_point_on job (stock_met job start moves k) b c)) (holder_solid_of job)
+        (grown holder job.slack) with_slack (good k hk).holder_stock in
+        keeps (grown holder job.slack) (move_at moves k) (column_x job i) (column_y job j) (stock_met job start moves k j i) h real.k real.d around_ok
+        (in_range k hk) (top_ok k j i point.column) (each j i point.column) (under k j i h point met) real.moment
+        (grown_holds law job ok holder size (move_at moves k) n r real (pos 1) (column_point job j i h) (omega (arith, ints)) holds)
 
-    stays_clear : PassingIsClear → PassingKeepsPoint → HolderStaysClear holder job part moves Met
-    stays_clear clear keeps = record { misses_part = misses_part clear holder holder_ok holder_passes; misses_stock = misses_stock keeps }
+    stays_clear : GrownHolds → PassingIsClear → PassingKeepsPoint → HolderStaysClear holder job part moves Met
+    stays_clear law clear keeps = record { misses_part = misses_all law clear; misses_stock = misses_stock law keeps }
 
-  pub keeps_clear : PassingIsClear → PassingKeepsPoint → (Met : PointsMet) → AreUnderTop job start moves Met → GoodBeforeOn job part start moves (length moves) → HolderKeepsClearOf job part moves Met
-  keeps_clear clear keeps Met under good = if_some (λ (holder : Solid). HolderStaysClear holder job part moves Met) job.holder (λ holder mounted. stays_clear good Met under holder mounted clear keeps)
+  pub keeps_clear : GrownHolds → PassingIsClear → PassingKeepsPoint → (Met : PointsMet) → AreUnderTop job start moves Met → GoodBeforeOn job part start moves (length moves)
+      → HolderKeepsClearOf job part moves Met
+  keeps_clear law clear keeps Met under good =
+      if_some (λ (holder : Solid). HolderStaysClear holder job part moves Met) job.holder (λ holder mounted. stays_clear good Met under holder mounted law clear keeps)
 
 -- one program, from the uncut stock on
 module _ (job : JobFields) (part : List Tri) (moves : List Move) (ok : IsJob job) (all_ok : MovesInRange moves) where
   first_ok : (k : ℕ) → MovesInRange (take k moves)
   first_ok k m member = all_ok m (subst (λ (v : List Move). Contains v m) (take-append-drop k moves) (Contains-append_left (take k moves) (drop k moves) m member))
 
-  under_top : OverTopIsRemoved → (ms : List Move) → MovesInRange ms → (j i : ℕ) (h : ℤ) → IsColumnPoint job j i h → LeavesPoint job ms j i h → h ≤ℤ stock_after job (uncut job) ms j i
-  under_top removed ms ms_ok j i h point leaves = not_over _ h (λ over. leaves (removed job ms (column_x job i) (column_y job j) h ok.cutter_ok ms_ok (column_within ok point.column (within_of_unit job.unit job.top ok.top_ok)) ok.sample_ok.low over point.top))
+  pub under_top : OverTopIsRemoved → (ms : List Move) → MovesInRange ms → (j i : ℕ) (h : ℤ) → IsColumnPoint job j i h → LeavesPoint job ms j i h → h ≤ℤ stock_after job (uncut job) ms j i
+  under_top removed ms ms_ok j i h point leaves =
+      not_over _ h (λ over. leaves (removed job ms (column_x job i) (column_y job j) h ok ms_ok (column_within ok point.column (within_of_unit job.unit job.top ok.top_ok)) over point.top))
 
-  uncut_ok : IsStockOf job (uncut job)
+  pub uncut_ok : IsStockOf job (uncut job)
   uncut_ok = uncut_stays job ok.stock
 
-  met_under : OverTopIsRemoved → AreUnderTop job (uncut job) moves (left_before job moves)
+  pub met_under : OverTopIsRemoved → AreUnderTop job (uncut job) moves (left_before job moves)
   met_under removed k j i h point leaves = under_top removed (take k moves) (first_ok k) j i h point leaves
 
-  part_is_left : NeverGouges job part moves → HoldsOver → PartIsLeft job part moves
-  part_is_left never over j i h point stands r = keeps_part over job part j i h job.cutter r.move stands (never r.move r.member) r.removes
-
   -- what an accepted program does, from the laws
-  pub safe : PassingIsClear → PassingKeepsPoint → OverTopIsRemoved → PassedIsLeft → CoveredBelow → HoldsOver → (count columns : ℕ) (most : ℤ) → AcceptsOn job part (uncut job) moves count columns most → CutsSafely job part moves
-  safe clear keeps removed left below over count columns most a = record {
-    gouges = never_gouges job part (uncut job) moves ok uncut_ok all_ok clear a.good;
-    rapids = rapids_miss job part (uncut job) moves ok uncut_ok all_ok keeps (left_before job moves) (met_under removed) a.good;
+  pub safe : GrownHolds → PassingIsClear → PassingKeepsPoint → OverTopIsRemoved → PassedIsLeft → CoveredBelow → HoldsOver → (count columns : ℕ) (most : ℤ)
+      → AcceptsOn job part (uncut job) moves count columns most → CutsSafely job part moves
+  safe law clear keeps removed left below over count columns most a = record {
+    gouges = never_gouges job part (uncut job) moves ok uncut_ok all_ok law clear a.good;
+    rapids = rapids_miss job part (uncut job) moves ok uncut_ok all_ok law keeps (left_before job moves) (met_under removed) a.good;
     covered = are_covered below job part (stock_after job (uncut job) moves) (LeavesPoint job moves) (under_top removed moves all_ok) a.cut;
-    kept = part_is_left (never_gouges job part (uncut job) moves ok uncut_ok all_ok clear a.good) over;
-    depth = keeps_depth job part (uncut job) moves ok uncut_ok all_ok keeps left a.good;
-    holder = keeps_clear job part (uncut job) moves ok uncut_ok all_ok clear keeps (left_before job moves) (met_under removed) a.good;
+    kept = keeps_part job part (uncut job) moves ok uncut_ok all_ok law clear over a.good;
+    depth = keeps_depth job part (uncut job) moves ok uncut_ok all_ok law keeps left a.good;
+    holder = keeps_clear job part (uncut job) moves ok uncut_ok all_ok law clear keeps (left_before job moves) (met_under removed) a.good;
   }

@@ -8,10 +8,10 @@ use Rattle.mill_base.specs.declared.points.Tri.{Tri}
 use Rattle.mill_base.specs.declared.motion.Kind.{Kind}
 use Rattle.mill_base.specs.declared.motion.Kind.TheVariants.{Rapid, Feed}
 use Rattle.mill_base.specs.declared.motion.Move.{Move}
-use Rattle.mill_base.specs.Solids.{Solid, at_tip}
-use Rattle.mill_sweep.specs.Halving.{FailsAt, PassesPoint}
+use Rattle.mill_base.specs.Solids.{Solid}
 use Rattle.mill_sweep.specs.Solids.{SolidFailsAt, SolidPassesPoint}
 use Rattle.mill_sweep.specs.declared.leaf.Leaf.{Leaf}
+use Rattle.mill_job.specs.Solids.{holder_solid_of, stock_solid_of}
 use Rattle.mill_job.specs.declared.fields.JobFields.{JobFields}
 use Rattle.mill_job.specs.Columns.{IsColumn, column_x, column_y}
 use Rattle.mill_dexel.specs.Rows.{RowState}
@@ -88,12 +88,12 @@ module _ (job : JobFields) (part : List Tri) (a b : Stock) (moves : List Move) (
   same_top k j i column = ap (λ (top : ℤ). point_at (column_x job i) (column_y job j) top) (met k j i column)
 
   same_clears : (k : ℕ) → ClearsStockOn job a moves k → ClearsStockOn job b moves k
-  same_clears k clears tested j i column = subst (λ (p : Pt3). PassesPoint job.cutter (move_at moves k) p) (same_tested (move_at moves k).kind k j i column) (clears tested j i column)
+  same_clears k clears tested j i column = subst (λ (p : Pt3). SolidPassesPoint (stock_solid_of job) (move_at moves k) p) (same_tested (move_at moves k).kind k j i column) (clears tested j i column)
 
   same_holder_clears : (k : ℕ) → HolderClearsStockOn job a moves k → HolderClearsStockOn job b moves k
   same_holder_clears k = each_some
       (λ (holder : Solid). (j i : ℕ) → IsColumn job j i → SolidPassesPoint holder (move_at moves k) (top_point_on job (stock_met job a moves k) j i))
-      (λ (holder : Solid). (j i : ℕ) → IsColumn job j i → SolidPassesPoint holder (move_at moves k) (top_point_on job (stock_met job b moves k) j i)) job.holder
+      (λ (holder : Solid). (j i : ℕ) → IsColumn job j i → SolidPassesPoint holder (move_at moves k) (top_point_on job (stock_met job b moves k) j i)) (holder_solid_of job)
       (λ holder clears j i column. subst (λ (p : Pt3). SolidPassesPoint holder (move_at moves k) p) (same_top k j i column) (clears j i column))
 
   same_good : (k : ℕ) → IsGoodOn job part a moves k → IsGoodOn job part b moves k
@@ -118,12 +118,12 @@ module _ (job : JobFields) (part : List Tri) (a b : Stock) (moves : List Move) (
     is = h.is;
     tested = h.tested;
     column = h.column;
-    first = λ c d column order. subst (λ (p : Pt3). PassesPoint job.cutter (move_at moves k) p) (same_tested (move_at moves k).kind k c d column) (h.first c d column order);
-    fails = subst (λ (p : Pt3). FailsAt job.cutter (move_at moves k) (point_tri p) leaf) (same_tested kind k j i h.column) h.fails;
+    first = λ c d column order. subst (λ (p : Pt3). SolidPassesPoint (stock_solid_of job) (move_at moves k) p) (same_tested (move_at moves k).kind k c d column) (h.first c d column order);
+    fails = subst (λ (p : Pt3). SolidFailsAt (stock_solid_of job) (move_at moves k) (point_tri p) leaf) (same_tested kind k j i h.column) h.fails;
   }
 
   same_stops : (kind : Kind) (k j i : ℕ) (leaf : Leaf) → IsColumn job j i → StopsMoveOn job a moves kind k j i leaf → StopsMoveOn job b moves kind k j i leaf
-  same_stops kind k j i leaf column = subst (λ (p : Pt3). BlocksLeaf (at_tip job.cutter) (move_at moves k) leaf (point_tri p)) (same_tested kind k j i column)
+  same_stops kind k j i leaf column = subst (λ (p : Pt3). BlocksLeaf (stock_solid_of job) (move_at moves k) leaf (point_tri p)) (same_tested kind k j i column)
 
   same_holder_fails : (k j i : ℕ) (leaf : Leaf) → FailsHolderStockOn job part a moves k j i leaf → FailsHolderStockOn job part b moves k j i leaf
   same_holder_fails k j i leaf h = record {

@@ -3,10 +3,11 @@ use Rattle.std.specs.Prelude.{◌≡◌, ℕ, ◌+◌, ◌<◌, ◌≤◌, List,
 use Rattle.std.proofs.Common.{◌∙◌, ap, subst, arith}
 use Rattle.mill_base.specs.declared.points.Tri.{Tri}
 use Rattle.mill_base.specs.declared.motion.Move.{Move}
+use Rattle.mill_job.specs.Solids.{holder_solid_of}
 use Rattle.mill_job.specs.declared.fields.JobFields.{JobFields}
 use Rattle.mill_dexel.specs.Turns.{move_at}
 use Rattle.mill_base.specs.Solids.{Solid}
-use Rattle.mill_job.specs.Jobs.{tool_of}
+use Rattle.mill_job.specs.Jobs.{part_tool_of}
 use Rattle.mill_gouge.specs.Gouges.{PassesPart, ToolPassesPart}
 use Rattle.mill_verify.specs.Blocks.{BlockState, turned, IsBlockStopped, IsPartFail}
 use Rattle.mill_verify.specs.declared.block.PartFail.{PartFail}
@@ -32,7 +33,7 @@ stops_at job part moves old same t found view is fails = record {
 }
 
 -- where a test against the part fails, the tool doesn't pass the part
-pub part_fails : (job : JobFields) (part : List Tri) (m : Move) (found : PartFail) → IsPartFail job part m found → ¬ ToolPassesPart (tool_of job) m part
+pub part_fails : (job : JobFields) (part : List Tri) (m : Move) (found : PartFail) → IsPartFail job part m found → ¬ ToolPassesPart (part_tool_of job) m part
 part_fails job part m (fail.Cutter g) f passes = f.fails.fails (passes.cutter g.tri f.tri)
 part_fails job part m (fail.Holder g) f passes =
-    f.first.fails.fails (of_some (λ (holder : Solid). PassesPart holder m part) job.holder f.holder f.mounted passes.holder g.tri f.first.tri)
+    f.first.fails.fails (of_some (λ (holder : Solid). PassesPart holder m part) (holder_solid_of job) f.holder f.mounted passes.holder g.tri f.first.tri)

@@ -14,7 +14,7 @@ use Rattle.mill_dexel.proofs.Blocks.{row_parts}
 use Rattle.mill_dexel.proofs.RowLaws.{row_on_is_row}
 use Rattle.mill_dexel.proofs.RunLaws.{left_next}
 use Rattle.mill_dexel.proofs.TopLaws.{stock_stays}
-use Rattle.mill_job.specs.Jobs.{tool_of}
+use Rattle.mill_job.specs.Jobs.{part_tool_of}
 use Rattle.mill_gouge.specs.Gouges.{ToolPassesPart}
 use Rattle.mill_dexel.proofs.Stops.{stop_fails}
 use Rattle.mill_verify.proofs.Turned.{before_is}
@@ -140,7 +140,7 @@ module _ (w : TestsShown) (n t m : ℕ) where
       )
 
   -- a block on whose move the tool clears the part is as the next one meets it
-  pub block_passes : (b new : BlockState) → IsDue tests w n t (Block m b) → ToolPassesPart (tool_of w.job) (move_at w.moves t) w.part → new ≡ turned b → PassesTest w n t × IsPieceAt w n (t + 1) (Block m new)
+  pub block_passes : (b new : BlockState) → IsDue tests w n t (Block m b) → ToolPassesPart (part_tool_of w.job) (move_at w.moves t) w.part → new ≡ turned b → PassesTest w n t × IsPieceAt w n (t + 1) (Block m new)
   block_passes b new d clears is =
       let under = d.is_at.1 in
       (record { part = λ block. clears; stock = λ j at. absurd (omega (under, at, arith)) }, (d.is_at.0, under, block_more (block_of w.turns n) b new t d.is_at.2 is))
@@ -149,6 +149,6 @@ module _ (w : TestsShown) (n t m : ℕ) where
   pub block_fails : (b new : BlockState) → IsDue tests w n t (Block m b) → IsBlockStopped w.job w.part w.moves b new → (¬ PassesTest w n t) × IsPieceFailed w n t (Block m new)
   block_fails b new d stopped =
       let next : b.next ≡ t = ap (λ (x : BlockState). x.next) d.is_at.2 in (
-        λ p. part_fails w.job w.part (move_at w.moves b.next) stopped.fail stopped.fails (subst (λ (k : ℕ). ToolPassesPart (tool_of w.job) (move_at w.moves k) w.part) (sym next) (p.part d.is_at.1)),
+        λ p. part_fails w.job w.part (move_at w.moves b.next) stopped.fail stopped.fails (subst (λ (k : ℕ). ToolPassesPart (part_tool_of w.job) (move_at w.moves k) w.part) (sym next) (p.part d.is_at.1)),
         (d.is_at.0, d.is_at.1, subst (λ (x : BlockState). IsBlockStopped w.job w.part w.moves x new) d.is_at.2 stopped),
       )

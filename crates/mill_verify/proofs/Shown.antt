@@ -5,10 +5,9 @@ use Rattle.mill_base.specs.declared.motion.Move.{Move}
 use Rattle.mill_base.specs.declared.motion.Kind.{Kind}
 use Rattle.mill_base.specs.declared.motion.Kind.TheVariants.{Rapid, Feed}
 use Rattle.mill_base.specs.Points.{point_tri, tri_at}
-use Rattle.mill_sweep.specs.Halving.{Blocks}
 use Rattle.mill_sweep.specs.Solids.{SolidIsBlocked}
-use Rattle.mill_sweep.specs.Leaves.{span_of}
 use Rattle.mill_sweep.specs.declared.leaf.Leaf.{Leaf}
+use Rattle.mill_job.specs.Solids.{holder_solid_of, part_solid_of, stock_solid_of}
 use Rattle.mill_job.specs.declared.fields.JobFields.{JobFields}
 use Rattle.mill_dexel.specs.Tops.{Stock, tested_point_on, top_point_on}
 use Rattle.mill_dexel.specs.Turns.{move_at}
@@ -19,16 +18,16 @@ use Rattle.mill_verify.specs.declared.verdict.Reason.TheVariants.{Floor, Gouge, 
 
 -- the point of column (j, i) at which a move of this kind is tested after the moves before move k blocks this leaf of that move
 abbrev pub StopsAt : JobFields → Stock → List Move → Kind → ℕ → ℕ → ℕ → Leaf → Type 0
-StopsAt job start moves kind k j i leaf = Blocks job.cutter (span_of (move_at moves k) leaf.d leaf.k) (point_tri (tested_point_on job kind (stock_met job start moves k) j i))
+StopsAt job start moves kind k j i leaf = SolidIsBlocked (stock_solid_of job) (move_at moves k) (point_tri (tested_point_on job kind (stock_met job start moves k) j i)) leaf
 
 -- this triangle blocks the job's holder on this leaf of move k
 abbrev pub BlocksHeld : JobFields → List Move → ℕ → Leaf → Tri → Type 0
-BlocksHeld job moves k leaf tri = IfSome job.holder (λ holder. SolidIsBlocked holder (move_at moves k) tri leaf)
+BlocksHeld job moves k leaf tri = IfSome (holder_solid_of job) (λ holder. SolidIsBlocked holder (move_at moves k) tri leaf)
 
 -- a rejection by tests (ii) to (iii h) names a leaf that is blocked
 abbrev pub ShowsBlock : JobFields → List Tri → Stock → List Move → Reason → Type 0
 ShowsBlock job part start moves (Floor k) = Unit {0}
-ShowsBlock job part start moves (Gouge k t leaf) = Blocks job.cutter (span_of (move_at moves k) leaf.d leaf.k) (tri_at part t)
+ShowsBlock job part start moves (Gouge k t leaf) = SolidIsBlocked (part_solid_of job) (move_at moves k) (tri_at part t) leaf
 ShowsBlock job part start moves (Holder k t leaf) = BlocksHeld job moves k leaf (tri_at part t)
 ShowsBlock job part start moves (RapidCut k j i leaf) = StopsAt job start moves Rapid k j i leaf
 ShowsBlock job part start moves (Cut k j i leaf) = StopsAt job start moves Feed k j i leaf

@@ -16,9 +16,10 @@ use Rattle.mill_sweep.specs.Solids.{SolidIsBlocked, SolidPassesPoint}
 use Rattle.mill_dexel.specs.Tops.{Stock as OneStock, top_point_on}
 use Rattle.mill_sweep.specs.declared.leaf.Leaf.{Leaf}
 use Rattle.mill_gouge.specs.Gouges.{ToolPassesPart}
+use Rattle.mill_job.specs.Solids.{holder_solid_of}
 use Rattle.mill_job.specs.declared.fields.JobFields.{JobFields}
 use Rattle.mill_job.specs.Columns.{row_count}
-use Rattle.mill_job.specs.Jobs.{IsJob, tool_of}
+use Rattle.mill_job.specs.Jobs.{IsJob, part_tool_of}
 use Rattle.mill_dexel.specs.Rows.{RowState, cutting, fresh_row, holding}
 use Rattle.mill_dexel.specs.Turns.{CutClearsRow, CutStopsAt, HolderStopsAt, StopsAt as StopsBy, StopsRow, move_at, row_before}
 use Rattle.mill_dexel.specs.declared.fail.RowFail.{RowFail}
@@ -100,7 +101,7 @@ module _ (job : JobFields) (part : List Tri) (start : Option (List RowState)) (m
   row_last u j lt = let l = limit_of_row w (blocks_of w + j) (omega arith) in omega (l, lt, arith)
 
   -- what comes of a move whose tests pass
-  part_cleared : (u : ℕ) → u < turns → PassesTest w (u / 64) u → ToolPassesPart (tool_of job) (move_at moves u) part
+  part_cleared : (u : ℕ) → u < turns → PassesTest w (u / 64) u → ToolPassesPart (part_tool_of job) (move_at moves u) part
   part_cleared u lt p = p.part (block_under u lt)
 
   row_cleared : (u j : ℕ) → PassesTest w (blocks_of w + j) u → RowClears job stock moves u j
@@ -241,7 +242,7 @@ module _ (job : JobFields) (part : List Tri) (start : Option (List RowState)) (m
         first = f.first.first;
         fails = f.first.fails;
       };
-      shown = for_some (λ (holder : Solid). SolidIsBlocked holder (move_at moves least) (tri_at part g.tri) g.leaf) job.holder f.holder f.mounted f.first.blocked;
+      shown = for_some (λ (holder : Solid). SolidIsBlocked holder (move_at moves least) (tri_at part g.tri) g.leaf) (holder_solid_of job) f.holder f.mounted f.first.blocked;
     }
 
     kind_rejects : (v : Kind) (j i : ℕ) (leaf : Leaf) → FailsStockOn job part stock moves v least j i leaf → StopsAt job stock moves v least j i leaf → Rejects (cut_reason v least j i leaf)
@@ -252,7 +253,7 @@ module _ (job : JobFields) (part : List Tri) (start : Option (List RowState)) (m
     abbrev NoCut : ℕ → Type 0
     NoCut bound = NoneFailedBy test.Cut least hs bound
 
-    block_passed : (bound : ℕ) → NoCut bound → blocks_of w ≤ bound → ToolPassesPart (tool_of job) (move_at moves least) part
+    block_passed : (bound : ℕ) → NoCut bound → blocks_of w ≤ bound → ToolPassesPart (part_tool_of job) (move_at moves least) part
     block_passed bound none over =
         let lt = turn_there in
         let b = block_under least lt in
@@ -316,12 +317,12 @@ module _ (job : JobFields) (part : List Tri) (start : Option (List RowState)) (m
             mounted = held_stop.there;
             column = record { row = omega (number, u, arith); column = s.column };
             first = λ a b column order. elim order [
-              | inl less ↦ of_some (λ (h : Solid). HolderPassesTops h job stock moves least a) job.holder held_stop.holder held_stop.there (row_passed a none held (omega (less, number, arith))) b column.column
+              | inl less ↦ of_some (λ (h : Solid). HolderPassesTops h job stock moves least a) (holder_solid_of job) held_stop.holder held_stop.there (row_passed a none held (omega (less, number, arith))) b column.column
               | inr same ↦ subst (λ (v : ℕ). SolidPassesPoint held_stop.holder (move_at moves least) (top_point_on job (stock_met job stock moves least) v b)) (sym same.0) (s.before b same.1)
             ];
             fails = s.fails;
           };
-          shown = for_some (λ (h : Solid). SolidIsBlocked h (move_at moves least) (point_tri (top_point_on job (stock_met job stock moves least) j i)) leaf) job.holder held_stop.holder held_stop.there s.blocked;
+          shown = for_some (λ (h : Solid). SolidIsBlocked h (move_at moves least) (point_tri (top_point_on job (stock_met job stock moves least) j i)) leaf) (holder_solid_of job) held_stop.holder held_stop.there s.blocked;
         }
 
     stock_rejects : (j i : ℕ) (leaf : Leaf) (t : RowTest) → n ≡ blocks_of w + j → (t ≡ test.Holder → NoCut (length hs)) → NoneFailedBy t least hs n

@@ -8,6 +8,7 @@ use Rattle.mill_base.specs.declared.motion.Move.{Move}
 use Rattle.mill_base.specs.declared.motion.Kind.{Kind}
 use Rattle.mill_sweep.specs.Solids.{SolidFailsAt, SolidIsBlocked, SolidPassesPoint}
 use Rattle.mill_sweep.specs.declared.leaf.Leaf.{Leaf}
+use Rattle.mill_job.specs.Solids.{holder_solid_of}
 use Rattle.mill_job.specs.declared.fields.JobFields.{JobFields}
 use Rattle.mill_job.specs.Columns.{IsColumn, column_count, column_x, column_y, row_count}
 use Rattle.mill_dexel.specs.Tops.{IsTested, Stock, row_tops, tested_height, tested_point_on, top_point_on}
@@ -39,7 +40,7 @@ abbrev pub HolderPassesTops : Solid → JobFields → Stock → List Move → �
 HolderPassesTops holder job start moves k j = (i : ℕ) → i < column_count job → SolidPassesPoint holder (move_at moves k) (top_point_on job (stock_met job start moves k) j i)
 
 abbrev pub RowHolderClears : JobFields → Stock → List Move → ℕ → ℕ → Type 0
-RowHolderClears job start moves k j = IfSome job.holder (λ holder. HolderPassesTops holder job start moves k j)
+RowHolderClears job start moves k j = IfSome (holder_solid_of job) (λ holder. HolderPassesTops holder job start moves k j)
 
 -- a test of a row fails in row j of the stock that move k meets, at column i first, where the leaf is blocked
 pub record IsRowStop (test : Test) (job : JobFields) (start : Stock) (moves : List Move) (k j i : ℕ) (leaf : Leaf) : Type 0 where
@@ -72,7 +73,7 @@ module _ (job : JobFields) (start : Stock) (moves : List Move) (k j : ℕ) where
   -- and test (iii h)
   pub row_holder_clears : ClearsRow job met step → RowHolderClears job start moves k j
   row_holder_clears clears =
-      each_some (λ (holder : Solid). HolderPassesRow holder job met step) (λ (holder : Solid). HolderPassesTops holder job start moves k j) job.holder
+      each_some (λ (holder : Solid). HolderPassesRow holder job met step) (λ (holder : Solid). HolderPassesTops holder job start moves k j) (holder_solid_of job)
       (λ holder. row_passes (holding holder step)) clears.holder
 
   -- one that the row doesn't pass fails in the stock's columns
@@ -89,5 +90,5 @@ module _ (job : JobFields) (start : Stock) (moves : List Move) (k j : ℕ) where
 -- a move that passes test (iii h) in each row passes it
 pub holder_clears_all : (job : JobFields) (start : Stock) (moves : List Move) (k : ℕ) → ((j : ℕ) → j < row_count job → RowHolderClears job start moves k j) → HolderClearsStockOn job start moves k
 holder_clears_all job start moves k each =
-    if_some (λ (holder : Solid). (j i : ℕ) → IsColumn job j i → SolidPassesPoint holder (move_at moves k) (top_point_on job (stock_met job start moves k) j i)) job.holder
-    (λ holder there j i column. of_some (λ (h : Solid). HolderPassesTops h job start moves k j) job.holder holder there (each j column.row) i column.column)
+    if_some (λ (holder : Solid). (j i : ℕ) → IsColumn job j i → SolidPassesPoint holder (move_at moves k) (top_point_on job (stock_met job start moves k) j i)) (holder_solid_of job)
+    (λ holder there j i column. of_some (λ (h : Solid). HolderPassesTops h job start moves k j) (holder_solid_of job) holder there (each j column.row) i column.column)

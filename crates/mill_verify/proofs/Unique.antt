@@ -11,6 +11,7 @@ use Rattle.mill_base.specs.Solids.{Solid, lifted}
 use Rattle.mill_gouge.specs.Gouges.{PassesPart}
 use Rattle.mill_sweep.specs.Solids.{SolidFailsAt, SolidPasses, SolidPassesPoint}
 use Rattle.mill_sweep.specs.declared.leaf.Leaf.{Leaf}
+use Rattle.mill_job.specs.Solids.{holder_solid_of, part_solid_of, stock_solid_of}
 use Rattle.mill_job.specs.declared.fields.JobFields.{JobFields}
 use Rattle.mill_job.specs.Columns.{IsBefore, IsColumn}
 use Rattle.mill_dexel.specs.Tops.{Stock, stock_after, tested_point_on, top_point_on}
@@ -59,11 +60,11 @@ module _ (job : JobFields) (part : List Tri) (start : Stock) (moves : List Move)
 
   -- a holder that fails a test doesn't pass it
   held_fails : (k t : ℕ) (leaf : Leaf) → FailsHolderOn job part start moves k t leaf → ¬ HolderClearsPart job part moves k
-  held_fails k t leaf h clears = h.fails.fails (of_some (λ (v : Solid). PassesPart v (move_at moves k) part) job.holder h.holder h.mounted clears t h.tri)
+  held_fails k t leaf h clears = h.fails.fails (of_some (λ (v : Solid). PassesPart v (move_at moves k) part) (holder_solid_of job) h.holder h.mounted clears t h.tri)
 
   held_stock_fails : (k j i : ℕ) (leaf : Leaf) → FailsHolderStockOn job part start moves k j i leaf → ¬ HolderClearsStockOn job start moves k
   held_stock_fails k j i leaf h clears =
-      h.fails.fails (of_some (λ (v : Solid). (a b : ℕ) → IsColumn job a b → SolidPassesPoint v (move_at moves k) (top_point_on job (stock_met job start moves k) a b)) job.holder h.holder h.mounted clears j i h.column)
+      h.fails.fails (of_some (λ (v : Solid). (a b : ℕ) → IsColumn job a b → SolidPassesPoint v (move_at moves k) (top_point_on job (stock_met job start moves k) a b)) (holder_solid_of job) h.holder h.mounted clears j i h.column)
 
   stops_held : (k t : ℕ) (leaf : Leaf) → FailsHolderOn job part start moves k t leaf → Stops k
   stops_held k t leaf h = record { there = h.there; before = h.before; bad = λ g. held_fails k t leaf h g.holder }
@@ -88,14 +89,14 @@ module _ (job : JobFields) (part : List Tri) (start : Stock) (moves : List Move)
   -- the triangle and the leaf at which the holder fails, whichever it is called
   one_held : (k t u : ℕ) (a b : Leaf) → FailsHolderOn job part start moves k t a → FailsHolderOn job part start moves k u b → t ≡ u
   one_held k t u a b h g =
-      let same : h.holder ≡ g.holder = one_some job.holder h.holder g.holder h.mounted g.mounted in
+      let same : h.holder ≡ g.holder = one_some (holder_solid_of job) h.holder g.holder h.mounted g.mounted in
       same_number t u
       (λ x. h.fails.fails (subst (λ (v : Solid). SolidPasses v (move_at moves k) (tri_at part t)) (sym same) (g.first t x)))
       (λ x. g.fails.fails (subst (λ (v : Solid). SolidPasses v (move_at moves k) (tri_at part u)) same (h.first u x)))
 
   one_held_column : (k j i c d : ℕ) (a b : Leaf) → FailsHolderStockOn job part start moves k j i a → FailsHolderStockOn job part start moves k c d b → (j ≡ c) × (i ≡ d)
   one_held_column k j i c d a b h g =
-      let same : h.holder ≡ g.holder = one_some job.holder h.holder g.holder h.mounted g.mounted in
+      let same : h.holder ≡ g.holder = one_some (holder_solid_of job) h.holder g.holder h.mounted g.mounted in
       not_before j i c d
       (λ x. h.fails.fails (subst (λ (v : Solid). SolidPassesPoint v (move_at moves k) (top_point_on job (stock_met job start moves k) j i)) (sym same) (g.first j i h.column x)))
       (λ x. g.fails.fails (subst (λ (v : Solid). SolidPassesPoint v (move_at moves k) (top_point_on job (stock_met job start moves k) c d)) same (h.first c d g.column x)))
@@ -108,7 +109,7 @@ module _ (job : JobFields) (part : List Tri) (start : Stock) (moves : List Move)
       let g2 : FailsPartOn job part start moves k u b = subst (λ (n : ℕ). FailsPartOn job part start moves n u b) (sym e) g in
       let f : t ≡ u = one_gouge k t u a b h g2 in
       let g3 : FailsPartOn job part start moves k t b = subst (λ (n : ℕ). FailsPartOn job part start moves k n b) (sym f) g2 in
-      let q : a ≡ b = leaf_is_one job.cutter (move_at moves k) (tri_at part t) a b h.fails g3.fails in
+      let q : a ≡ b = leaf_is_one (part_solid_of job).cutter (lifted (part_solid_of job) (move_at moves k)) (tri_at part t) a b h.fails g3.fails in
       ap (λ (n : ℕ). Gouge n t a) e ∙ ap (λ (n : ℕ). Gouge l n a) f ∙ ap (λ (x : Leaf). Gouge l u x) q
 
   same_stock : (kind : Kind) (k l j i c d : ℕ) (a b : Leaf) → k ≡ l → FailsStockOn job part start moves kind k j i a → FailsStockOn job part start moves kind l c d b
@@ -118,7 +119,7 @@ module _ (job : JobFields) (part : List Tri) (start : Stock) (moves : List Move)
       let f = one_column kind k j i c d a b h g2 in
       let g3 : FailsStockOn job part start moves kind k j d b = subst (λ (n : ℕ). FailsStockOn job part start moves kind k n d b) (sym f.0) g2 in
       let g4 : FailsStockOn job part start moves kind k j i b = subst (λ (n : ℕ). FailsStockOn job part start moves kind k j n b) (sym f.1) g3 in
-      let q : a ≡ b = leaf_is_one job.cutter (move_at moves k) (point_tri (tested_point_on job kind (stock_met job start moves k) j i)) a b h.fails g4.fails in
+      let q : a ≡ b = leaf_is_one (stock_solid_of job).cutter (lifted (stock_solid_of job) (move_at moves k)) (point_tri (tested_point_on job kind (stock_met job start moves k) j i)) a b h.fails g4.fails in
       let r = cut_reason kind in
       ap (λ (n : ℕ). r n j i a) e ∙ ap (λ (n : ℕ). r l n i a) f.0 ∙ ap (λ (n : ℕ). r l c n a) f.1 ∙ ap (λ (x : Leaf). r l c d x) q
 
@@ -127,7 +128,7 @@ module _ (job : JobFields) (part : List Tri) (start : Stock) (moves : List Move)
       let g2 : FailsHolderOn job part start moves k u b = subst (λ (n : ℕ). FailsHolderOn job part start moves n u b) (sym e) g in
       let f : t ≡ u = one_held k t u a b h g2 in
       let g3 : FailsHolderOn job part start moves k t b = subst (λ (n : ℕ). FailsHolderOn job part start moves k n b) (sym f) g2 in
-      let same : g3.holder ≡ h.holder = one_some job.holder g3.holder h.holder g3.mounted h.mounted in
+      let same : g3.holder ≡ h.holder = one_some (holder_solid_of job) g3.holder h.holder g3.mounted h.mounted in
       let q : a ≡ b = leaf_is_one h.holder.cutter (lifted h.holder (move_at moves k)) (tri_at part t) a b h.fails (subst (λ (v : Solid). SolidFailsAt v (move_at moves k) (tri_at part t) b) same g3.fails) in
       ap (λ (n : ℕ). Holder n t a) e ∙ ap (λ (n : ℕ). Holder l n a) f ∙ ap (λ (x : Leaf). Holder l u x) q
 
@@ -137,7 +138,7 @@ module _ (job : JobFields) (part : List Tri) (start : Stock) (moves : List Move)
       let f = one_held_column k j i c d a b h g2 in
       let g3 : FailsHolderStockOn job part start moves k j d b = subst (λ (n : ℕ). FailsHolderStockOn job part start moves k n d b) (sym f.0) g2 in
       let g4 : FailsHolderStockOn job part start moves k j i b = subst (λ (n : ℕ). FailsHolderStockOn job part start moves k j n b) (sym f.1) g3 in
-      let same : g4.holder ≡ h.holder = one_some job.holder g4.holder h.holder g4.mounted h.mounted in
+      let same : g4.holder ≡ h.holder = one_some (holder_solid_of job) g4.holder h.holder g4.mounted h.mounted in
       let tri = point_tri (top_point_on job (stock_met job start moves k) j i) in
       let q : a ≡ b = leaf_is_one h.holder.cutter (lifted h.holder (move_at moves k)) tri a b h.fails (subst (λ (v : Solid). SolidFailsAt v (move_at moves k) tri b) same g4.fails) in
       ap (λ (n : ℕ). HolderStock n j i a) e ∙ ap (λ (n : ℕ). HolderStock l n i a) f.0 ∙ ap (λ (n : ℕ). HolderStock l c n a) f.1 ∙ ap (λ (x : Leaf). HolderStock l c d x) q

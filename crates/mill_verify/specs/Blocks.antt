@@ -2,9 +2,10 @@
 use Rattle.std.specs.Prelude.{◌≡◌, ℕ, ◌+◌, ◌*◌, ◌/◌, min, List, Option, Some, None}
 use Rattle.mill_base.specs.declared.points.Tri.{Tri}
 use Rattle.mill_base.specs.declared.motion.Move.{Move}
-use Rattle.mill_base.specs.Solids.{Solid, at_tip}
+use Rattle.mill_base.specs.Solids.{Solid}
 use Rattle.mill_gouge.specs.Gouges.{IsFirstGouge, PassesPart}
 use Rattle.mill_gouge.specs.declared.gouge.Gouge.{Gouge}
+use Rattle.mill_job.specs.Solids.{holder_solid_of, part_solid_of}
 use Rattle.mill_job.specs.declared.fields.JobFields.{JobFields}
 use Rattle.mill_dexel.specs.Turns.{move_at}
 use Rattle.mill_verify.specs.declared.block.PartFail.{PartFail}
@@ -31,14 +32,14 @@ turned b = record b { next = b.next + 1 }
 
 -- the cutter clears the part on a move, and the job has a holder that doesn't, first at this gouge
 pub record IsHolderFail (job : JobFields) (part : List Tri) (m : Move) (gouge : Gouge) : Type 0 where
-  pub clears : PassesPart (at_tip job.cutter) m part
+  pub clears : PassesPart (part_solid_of job) m part
   pub holder : Solid
-  pub mounted : job.holder ≡ Some holder
+  pub mounted : holder_solid_of job ≡ Some holder
   pub first : IsFirstGouge holder m part gouge
 
 -- how a move fails the tests against the part
 abbrev pub IsPartFail : JobFields → List Tri → Move → PartFail → Type 0
-IsPartFail job part m (fail.Cutter gouge) = IsFirstGouge (at_tip job.cutter) m part gouge
+IsPartFail job part m (fail.Cutter gouge) = IsFirstGouge (part_solid_of job) m part gouge
 IsPartFail job part m (fail.Holder gouge) = IsHolderFail job part m gouge
 
 -- the tool doesn't clear the part on the block's next move: how it fails is noted, and the rest is as it was

@@ -3,6 +3,8 @@ pub mod Blocks
 pub mod Verdicts
 pub mod Reasons
 pub mod Claims
+pub mod Plain
+pub mod Between
 pub mod Files
 pub mod Lists
 pub mod ListClaims

@@ -2,11 +2,11 @@
 use Rattle.std.specs.Prelude.{ℕ, ◌<◌, ◌-ℤ◌, ◌≤ℤ◌, List, take, IfSome}
 use Rattle.mill_base.specs.declared.points.Tri.{Tri}
 use Rattle.mill_base.specs.declared.motion.Move.{Move}
-use Rattle.mill_sweep.specs.Halving.{Passes, PassesPoint}
+use Rattle.mill_sweep.specs.Solids.{SolidPasses, SolidPassesPoint}
 use Rattle.mill_base.specs.Covers.{Covered}
-use Rattle.mill_base.specs.Solids.{at_tip}
 use Rattle.mill_job.specs.declared.fields.JobFields.{JobFields}
 use Rattle.mill_job.specs.Columns.{column_x, column_y}
+use Rattle.mill_job.specs.Solids.{holder_solid_of, part_solid_of, stock_solid_of}
 use Rattle.mill_dexel.specs.Tops.{ClearsColumnsOn, HolderClearsColumnsOn, Stock, stock_after, tested_point_on, uncut}
 use Rattle.mill_dexel.specs.Turns.{move_at}
 use Rattle.mill_base.specs.Points.{tri_at}
@@ -19,15 +19,15 @@ pub record IsOverFloor (job : JobFields) (moves : List Move) (k : ℕ) : Type 0 
 
 -- test (ii) of one triangle: move k passes it, by halving
 abbrev pub PassesTri : JobFields → List Tri → List Move → ℕ → ℕ → Type 0
-PassesTri job part moves k t = Passes job.cutter (move_at moves k) (tri_at part t)
+PassesTri job part moves k t = SolidPasses (part_solid_of job) (move_at moves k) (tri_at part t)
 
 -- test (ii): move k passes each triangle
 abbrev pub ClearsPart : JobFields → List Tri → List Move → ℕ → Type 0
-ClearsPart job part moves k = PassesPart (at_tip job.cutter) (move_at moves k) part
+ClearsPart job part moves k = PassesPart (part_solid_of job) (move_at moves k) part
 
 -- test (ii h): where the job has a holder, it passes each triangle on move k
 abbrev pub HolderClearsPart : JobFields → List Tri → List Move → ℕ → Type 0
-HolderClearsPart job part moves k = IfSome job.holder (λ holder. PassesPart holder (move_at moves k) part)
+HolderClearsPart job part moves k = IfSome (holder_solid_of job) (λ holder. PassesPart holder (move_at moves k) part)
 
 -- the stock as move k meets it: after the moves before, from this stock on
 abbrev pub stock_met : JobFields → Stock → List Move → ℕ → Stock
@@ -36,7 +36,7 @@ stock_met job start moves k = stock_after job start (take k moves)
 -- test (iii) of one column, from this stock on: move k passes, by halving, the point of the column at which it is tested after the moves before it: a Rapid the
 -- one at the top, and a Feed the one as low as it may cut
 abbrev pub PassesColumnOn : JobFields → Stock → List Move → ℕ → ℕ → ℕ → Type 0
-PassesColumnOn job start moves k j i = PassesPoint job.cutter (move_at moves k) (tested_point_on job (move_at moves k).kind (stock_met job start moves k) j i)
+PassesColumnOn job start moves k j i = SolidPassesPoint (stock_solid_of job) (move_at moves k) (tested_point_on job (move_at moves k).kind (stock_met job start moves k) j i)
 
 -- test (iii): where move k is a Rapid, or a Feed and the job limits the depth of cut, it passes each column
 abbrev pub ClearsStockOn : JobFields → Stock → List Move → ℕ → Type 0

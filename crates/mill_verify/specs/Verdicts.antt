@@ -4,14 +4,14 @@ use Rattle.mill_base.specs.declared.points.Tri.{Tri}
 use Rattle.mill_base.specs.declared.motion.Move.{Move}
 use Rattle.mill_base.specs.declared.motion.Kind.{Kind}
 use Rattle.mill_base.specs.declared.motion.Kind.TheVariants.{Rapid, Feed}
-use Rattle.mill_base.specs.Solids.{Solid, at_tip}
+use Rattle.mill_base.specs.Solids.{Solid}
 use Rattle.mill_base.specs.declared.limits.TheConstants.{MAX_LAST_REACH}
 use Rattle.mill_sweep.specs.Leaves.{reach_of}
-use Rattle.mill_sweep.specs.Halving.{FailsAt}
 use Rattle.mill_sweep.specs.Solids.{SolidFailsAt, SolidIsBlocked, SolidPasses, SolidPassesPoint}
 use Rattle.mill_sweep.specs.declared.leaf.Leaf.{Leaf}
 use Rattle.mill_base.specs.Points.{point_tri, tri_at}
 use Rattle.mill_base.specs.Covers.{IsHighestCovered}
+use Rattle.mill_job.specs.Solids.{holder_solid_of, part_solid_of, stock_solid_of}
 use Rattle.mill_job.specs.declared.fields.JobFields.{JobFields}
 use Rattle.mill_job.specs.Columns.{IsColumn, IsBefore, column_x, column_y, row_count, column_count}
 use Rattle.mill_dexel.specs.Tops.{IsTested, Stock, stock_after, tested_point_on, top_point_on, uncut}
@@ -35,7 +35,7 @@ pub record FailsPartOn (job : JobFields) (part : List Tri) (start : Stock) (move
   pub floor : IsOverFloor job moves k
   pub tri : t < length part
   pub first : (e : ℕ) → e < t → PassesTri job part moves k e
-  pub fails : FailsAt job.cutter (move_at moves k) (tri_at part t) leaf
+  pub fails : SolidFailsAt (part_solid_of job) (move_at moves k) (tri_at part t) leaf
 
 -- move k, all before it being good, passes tests (i) and (ii), and the job has a holder, which fails test (ii h) first at triangle t, at this leaf
 pub record FailsHolderOn (job : JobFields) (part : List Tri) (start : Stock) (moves : List Move) (k t : ℕ) (leaf : Leaf) : Type 0 where
@@ -44,7 +44,7 @@ pub record FailsHolderOn (job : JobFields) (part : List Tri) (start : Stock) (mo
   pub floor : IsOverFloor job moves k
   pub clears : ClearsPart job part moves k
   pub holder : Solid
-  pub mounted : job.holder ≡ Some holder
+  pub mounted : holder_solid_of job ≡ Some holder
   pub tri : t < length part
   pub first : (e : ℕ) → e < t → SolidPasses holder (move_at moves k) (tri_at part e)
   pub fails : SolidFailsAt holder (move_at moves k) (tri_at part t) leaf
@@ -60,7 +60,7 @@ pub record FailsStockOn (job : JobFields) (part : List Tri) (start : Stock) (mov
   pub tested : IsTested job kind
   pub column : IsColumn job j i
   pub first : (a b : ℕ) → IsColumn job a b → IsBefore a b j i → PassesColumnOn job start moves k a b
-  pub fails : FailsAt job.cutter (move_at moves k) (point_tri (tested_point_on job kind (stock_met job start moves k) j i)) leaf
+  pub fails : SolidFailsAt (stock_solid_of job) (move_at moves k) (point_tri (tested_point_on job kind (stock_met job start moves k) j i)) leaf
 
 -- move k, all before it being good, passes tests (i) to (iii), and the job has a holder, which fails test (iii h) first at column (j, i), at this leaf
 pub record FailsHolderStockOn (job : JobFields) (part : List Tri) (start : Stock) (moves : List Move) (k j i : ℕ) (leaf : Leaf) : Type 0 where
@@ -71,7 +71,7 @@ pub record FailsHolderStockOn (job : JobFields) (part : List Tri) (start : Stock
   pub holder_clears : HolderClearsPart job part moves k
   pub stock : ClearsStockOn job start moves k
   pub holder : Solid
-  pub mounted : job.holder ≡ Some holder
+  pub mounted : holder_solid_of job ≡ Some holder
   pub column : IsColumn job j i
   pub first : (a b : ℕ) → IsColumn job a b → IsBefore a b j i → SolidPassesPoint holder (move_at moves k) (top_point_on job (stock_met job start moves k) a b)
   pub fails : SolidFailsAt holder (move_at moves k) (point_tri (top_point_on job (stock_met job start moves k) j i)) leaf
@@ -146,16 +146,16 @@ pub record BlocksLeaf (solid : Solid) (move : Move) (leaf : Leaf) (tri : Tri) : 
 
 -- triangle t blocks this leaf of move k
 abbrev pub BlocksMove : JobFields → List Tri → List Move → ℕ → ℕ → Leaf → Type 0
-BlocksMove job part moves k t leaf = BlocksLeaf (at_tip job.cutter) (move_at moves k) leaf (tri_at part t)
+BlocksMove job part moves k t leaf = BlocksLeaf (part_solid_of job) (move_at moves k) leaf (tri_at part t)
 
 -- the point of column (j, i) at which a move of this kind is tested after the moves before move k blocks this leaf of that move
 abbrev pub StopsMoveOn : JobFields → Stock → List Move → Kind → ℕ → ℕ → ℕ → Leaf → Type 0
-StopsMoveOn job start moves kind k j i leaf = BlocksLeaf (at_tip job.cutter) (move_at moves k) leaf (point_tri (tested_point_on job kind (stock_met job start moves k) j i))
+StopsMoveOn job start moves kind k j i leaf = BlocksLeaf (stock_solid_of job) (move_at moves k) leaf (point_tri (tested_point_on job kind (stock_met job start moves k) j i))
 
 -- the job has a holder, and on this leaf of move k this triangle blocks it
 pub record BlocksHolder (job : JobFields) (moves : List Move) (k : ℕ) (leaf : Leaf) (tri : Tri) : Type 0 where
   pub holder : Solid
-  pub mounted : job.holder ≡ Some holder
+  pub mounted : holder_solid_of job ≡ Some holder
   pub blocks : BlocksLeaf holder (move_at moves k) leaf tri
 
 -- triangle t blocks the holder on this leaf of move k

@@ -2,7 +2,7 @@ ghost use Rattle.std.specs.Prelude.{◌≡◌, ◌*◌, ◌<◌, ◌≤◌, fals
 ghost use Rattle.mill_base.specs.Ranges.{MoveInRange, MovesInRange};
 ghost use Rattle.mill_dexel.specs.Turns.{move_at};
 ghost use Rattle.mill_gouge.specs.Gouges.{ToolPassesPart};
-ghost use Rattle.mill_job.specs.Jobs.{tool_of};
+ghost use Rattle.mill_job.specs.Jobs.{part_tool_of};
 ghost use Rattle.mill_verify.specs.Blocks.{IsBlockStopped, IsPartFail, block_count, block_of, turned};
 
 use mill_base::{Move, Solid};
@@ -104,7 +104,7 @@ impl Block {
         requires there { t < self.old.limit }
         requires within { self.old.limit ≤ length moves.now }
         ensures clears { IsTrue result →
-            ToolPassesPart (tool_of job.now.fields) (move_at moves.now t) part.now }
+            ToolPassesPart (part_tool_of job.now.fields) (move_at moves.now t) part.now }
         ensures passed { IsTrue result → self.new ≡ turned self.old }
         ensures stopped { result ≡ false → IsBlockStopped job.now.fields part.now moves.now self.old self.new }
     {
@@ -123,13 +123,13 @@ pub fn part_fail(job: &Job, part: &SortedPart, step: &Move) -> Option<PartFail>
     requires move_ok { MoveInRange step.now }
     ensures { MatchOption
         result
-        (ToolPassesPart (tool_of job.now.fields) step.now part.now)
+        (ToolPassesPart (part_tool_of job.now.fields) step.now part.now)
         (IsPartFail job.now.fields part.now step.now) }
 {
-    if let Some(gouge) = first_gouge(Solid::at_tip(job.fields.cutter), part, step) {
+    if let Some(gouge) = first_gouge(job.part_solid(), part, step) {
         return Some(PartFail::Cutter(gouge));
     }
-    let holder = job.fields.holder?;
+    let holder = job.holder_solid()?;
     let gouge = first_gouge(holder, part, step)?;
     Some(PartFail::Holder(gouge))
 }

@@ -1,4 +1,6 @@
+ghost use Rattle.mill_verify.specs.Between.{BetweenIsSafe};
 ghost use Rattle.mill_verify.specs.Lists.{AloneIsVerdict, OneListVerdict};
+ghost use Rattle.mill_verify.specs.Plain.{PlainIsPlain};
 ghost use Rattle.mill_verify.specs.Verdicts.{OneVerdict};
 
 /// A job, a part and a list of moves have at most one verdict.
@@ -21,4 +23,20 @@ pub fn one_list_verdict()
 /// It has no code, as [`one_verdict`].
 pub fn alone_is_verdict()
     ensures { AloneIsVerdict }
+{}
+
+/// Where a job asks for no slack, no overcut and no graze, what is promised of each place where the
+/// machine's tip may be is promised of the program's own.
+///
+/// It has no code, as [`one_verdict`].
+pub fn plain_is_plain()
+    ensures { PlainIsPlain }
+{}
+
+/// Where the tests pass, each tool cuts safely that holds all that the job's cutter removes for
+/// sure, and nothing but what it may touch: a worn, a re-ground or a badly measured one.
+///
+/// It has no code, as [`one_verdict`].
+pub fn between_is_safe()
+    ensures { BetweenIsSafe }
 {}

@@ -29,7 +29,7 @@ pub use block::{Block, PartFail, part_fail};
 pub use failure::{part_reason, stock_reason};
 pub use file::CutFile;
 pub use floor::is_over_floor;
-pub use laws::{alone_is_verdict, one_list_verdict, one_verdict};
+pub use laws::{alone_is_verdict, between_is_safe, one_list_verdict, one_verdict, plain_is_plain};
 pub use list::{ListVerdict, MAX_FILES, verify_list};
 pub use program::{verdict_on_stock, verify};
 pub use verdict::{Reason, Verdict};

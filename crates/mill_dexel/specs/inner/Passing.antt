@@ -6,6 +6,7 @@ use Rattle.mill_base.specs.declared.motion.Kind.{Kind}
 use Rattle.mill_job.specs.declared.fields.JobFields.{JobFields}
 use Rattle.mill_sweep.specs.Reach.{margin_of}
 use Rattle.mill_job.specs.Columns.{column_count, column_y}
+use Rattle.mill_job.specs.Solids.{holder_solid_of, inner_of}
 use Rattle.mill_dexel.specs.declared.band.Band.{Band}
 use Rattle.mill_dexel.specs.Rows.{RowState, Test, PassesAt}
 use Rattle.mill_dexel.specs.inner.Cuts.{IsBeyond}
@@ -18,10 +19,10 @@ pub record IsBandAround (moves : List Move) (count t : ℕ) (band : Band) : Type
   pub within : band.«end» ≤ count
   pub is_band : IsBand moves band
 
--- a row at y is at least the cutter's radius and 2 away from the interval from a to b, and the radius of the holder, if there is one, and 2
+-- a row at y is at least the radius of what the cutter removes for sure and 2 away from the interval from a to b, and the radius of the holder, if there is one, and 2
 pub record IsAway (job : JobFields) (a b y : ℤ) : Type 0 where
-  pub cut : IsBeyond (margin_of job.cutter) a b y
-  pub holder : IfSome job.holder (λ holder. IsBeyond (margin_of holder.cutter) a b y)
+  pub cut : IsBeyond (margin_of (inner_of job).cutter) a b y
+  pub holder : IfSome (holder_solid_of job) (λ holder. IsBeyond (margin_of holder.cutter) a b y)
 
 -- the row goes over the moves of a band at once, which stays that far away from it
 pub record PassesOver (job : JobFields) (band : Band) (old new : RowState) : Type 0 where

@@ -13,7 +13,7 @@ use Rattle.mill_job.specs.declared.groups.Extras.{Extras}
 use Rattle.mill_job.specs.declared.fault.JobFault.{JobFault}
 use Rattle.mill_job.specs.declared.fields.JobFields.{JobFields}
 use Rattle.mill_job.specs.declared.key.Key.TheVariants as key
-use Rattle.mill_job.specs.declared.limits.TheConstants.{MAX_DISTANCE}
+use Rattle.mill_job.specs.declared.limits.TheConstants.{MAX_DISTANCE, MAX_GRAZE, MAX_OVERCUT, MAX_SLACK}
 use Rattle.mill_job.specs.declared.groups.Measure.{Measure}
 use Rattle.mill_job.specs.declared.groups.Paths.{Paths}
 use Rattle.mill_job.specs.declared.groups.Space.{Space}
@@ -91,6 +91,9 @@ extras_faults unit ms =
     ∷ number_fault_if_there key.MaxCut (pos 0) (pos (greatest_of unit)) ms
     ∷ holder_fault unit ms
     ∷ number_fault_if_there key.PathTol (pos 0) MAX_DISTANCE ms
+    ∷ number_fault_if_there key.Slack (pos 0) MAX_SLACK ms
+    ∷ number_fault_if_there key.Overcut (pos 0) MAX_OVERCUT ms
+    ∷ number_fault_if_there key.Graze (pos 0) MAX_GRAZE ms
     ∷ []
 
 abbrev pub extras_of : Members → Extras
@@ -99,6 +102,9 @@ extras_of ms = record {
   max_cut = number_or key.MaxCut (pos 0) ms;
   holder = holder_of ms;
   path_tol = number_given key.PathTol ms;
+  slack = number_or key.Slack (pos 0) ms;
+  overcut = number_or key.Overcut (pos 0) ms;
+  graze = number_given key.Graze ms;
 }
 
 -- the job of what all of them say
@@ -125,4 +131,7 @@ job_of_groups unit cutter space measure paths extras = record {
   max_cut = extras.max_cut;
   holder = extras.holder;
   path_tol = extras.path_tol;
+  slack = extras.slack;
+  overcut = extras.overcut;
+  graze = extras.graze;
 }

@@ -1,6 +1,7 @@
 -- What is known of a job's values before its relations are.
 use Rattle.std.specs.Prelude.{◌≡◌, ◌≤◌, ℤ, pos, ◌<ℤ◌, ◌≤ℤ◌, List, length, AllPairs, IfSome, IsSome}
 use Rattle.mill_base.specs.Numbers.{Within}
+use Rattle.mill_base.specs.Sizes.{IsCutter}
 use Rattle.mill_base.specs.Solids.{IsSolid}
 use Rattle.mill_base.specs.Units.{greatest_of}
 use Rattle.mill_base.specs.declared.limits.TheConstants.{MAX_RADIUS}
@@ -10,7 +11,7 @@ use Rattle.mill_job.specs.declared.cutter.Outline.{Outline}
 use Rattle.mill_job.specs.declared.cutter.Shape.TheVariants as shape
 use Rattle.mill_job.specs.declared.groups.Extras.{Extras}
 use Rattle.mill_job.specs.declared.fields.JobFields.{JobFields}
-use Rattle.mill_job.specs.declared.limits.TheConstants.{MAX_DISTANCE, MAX_LEVELS}
+use Rattle.mill_job.specs.declared.limits.TheConstants.{MAX_DISTANCE, MAX_GRAZE, MAX_LEVELS, MAX_OVERCUT, MAX_SLACK}
 use Rattle.mill_job.specs.declared.groups.Measure.{Measure}
 use Rattle.mill_job.specs.declared.groups.Paths.{Paths}
 use Rattle.mill_job.specs.declared.groups.Space.{Space}
@@ -18,11 +19,14 @@ use Rattle.mill_base.specs.declared.unit.Unit.{Unit}
 
 -- the numbers with which the relations are reckoned are in their ranges
 pub record IsRanged (job : JobFields) : Type 0 where
+  pub cutter_ok : IsCutter job.cutter
   pub floor_ok : Within (greatest_of job.unit) job.floor
   pub top_ok : Within (greatest_of job.unit) job.top
   pub area_ok : IsArea job.unit job.area
   pub pitch_ok : IsFrom (pos 1) MAX_DISTANCE job.pitch
   pub layer_ok : IsFrom (pos 0) (pos (greatest_of job.unit)) job.layer
+  pub slack_ok : IsFrom (pos 0) MAX_SLACK job.slack
+  pub graze_ok : IfSome job.graze (IsFrom (pos 0) MAX_GRAZE)
 
 -- at most 64 heights, each under all before it
 pub record AreInOrder (heights : List ℤ) : Type 0 where
@@ -64,3 +68,6 @@ pub record AreExtras (unit : Unit) (extras : Extras) : Type 0 where
   pub holder_ok : IfSome extras.holder IsSolid
   pub stickout : IfSome extras.holder (λ holder. (pos 1) ≤ℤ holder.lift)
   pub path_tol_ok : IfSome extras.path_tol (IsFrom (pos 0) MAX_DISTANCE)
+  pub slack_ok : IsFrom (pos 0) MAX_SLACK extras.slack
+  pub overcut_ok : IsFrom (pos 0) MAX_OVERCUT extras.overcut
+  pub graze_ok : IfSome extras.graze (IsFrom (pos 0) MAX_GRAZE)

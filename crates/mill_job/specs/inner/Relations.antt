@@ -1,12 +1,13 @@
--- A job's relations, in two parts: what is wrong, and what holds where nothing is.
-use Rattle.std.specs.Prelude.{◌*◌, ◌≤◌, nat_lt, not, All, ◌<ℤ◌, ◌≤ℤ◌, int_lt, List, [], ◌∷◌, Option, IfSome}
+-- A job's relations, in three parts: what is wrong, and what holds where nothing is.
+use Rattle.std.specs.Prelude.{◌*◌, ◌≤◌, nat_lt, not, All, ◌<ℤ◌, ◌≤ℤ◌, int_lt, List, [], ◌∷◌, ◌++◌, Option, IfSome}
 use Rattle.std.specs.List.{list_all}
 use Rattle.mill_base.specs.Sizes.{radius_of}
 use Rattle.mill_base.specs.declared.limits.TheConstants.{MAX_COLUMNS}
 use Rattle.mill_job.specs.Columns.{row_count, column_count}
-use Rattle.mill_job.specs.Documents.{has_many_layers, is_level}
+use Rattle.mill_job.specs.Documents.{has_many_layers, is_level, slack_faults}
 use Rattle.mill_job.specs.Holders.{is_narrow}
-use Rattle.mill_job.specs.Jobs.{HasFewLayers, IsLevel}
+use Rattle.mill_job.specs.Jobs.{HasFewLayers, HasRoom, HolderHasRoom, IsLevel}
+use Rattle.mill_job.specs.Slack.{is_holder_close, is_low}
 use Rattle.mill_job.specs.Tables.{fault_if}
 use Rattle.mill_job.specs.declared.fields.JobFields.{JobFields}
 use Rattle.mill_job.specs.declared.key.Key.TheVariants as key
@@ -41,7 +42,20 @@ pub record IsCut (job : JobFields) : Type 0 where
   pub levels : All (IsLevel job.floor job.top) job.levels
   pub wider : IfSome job.holder (λ holder. radius_of job.cutter <ℤ radius_of holder.cutter)
 
+-- between how far the machine may be from the program, and how deep a cutter may pass, and the cutter, the holder or the stock
+abbrev pub room_faults : JobFields → List (Option JobFault)
+room_faults job =
+    slack_faults job job.cutter
+    ++ fault_if (is_holder_close job.slack job.holder) (Relation key.Slack key.Stickout)
+    ∷ fault_if (is_low job job.cutter) (Relation key.Slack key.Clear)
+    ∷ []
+
+pub record IsSlackened (job : JobFields) : Type 0 where
+  pub room : HasRoom job job.cutter
+  pub holder_room : HolderHasRoom job
+
 -- all of them hold
 pub record IsRelated (job : JobFields) : Type 0 where
   pub of_stock : IsStock job
   pub of_cut : IsCut job
+  pub of_room : IsSlackened job

@@ -4,6 +4,7 @@ use Rattle.mill_base.specs.Points.{point_tri}
 use Rattle.mill_base.specs.declared.motion.Move.{Move}
 use Rattle.mill_base.specs.Solids.{Solid}
 use Rattle.mill_sweep.specs.Solids.{SolidFailsAt, SolidIsBlocked, SolidPassesPoint}
+use Rattle.mill_job.specs.Solids.{holder_solid_of}
 use Rattle.mill_job.specs.declared.fields.JobFields.{JobFields}
 use Rattle.mill_job.specs.Columns.{IsBefore, IsColumn}
 use Rattle.mill_dexel.specs.Rows.{HolderClearsRow, IsFirstHolderStop, RowState, Test, cutting, holding, uncut_row}
@@ -38,7 +39,7 @@ pub record IsCutStop (job : JobFields) (stock : Stock) (m : Move) (stop : Stop) 
 pub record IsHolderStop (job : JobFields) (stock : Stock) (m : Move) (stop : Stop) : Type 0 where
   pub cut : ClearsColumnsOn job stock m
   pub holder : Solid
-  pub mounted : job.holder ≡ Some holder
+  pub mounted : holder_solid_of job ≡ Some holder
   pub at : IsColumnStop job stock (holding holder m) stop
 
 -- so it is by the test that the stop names

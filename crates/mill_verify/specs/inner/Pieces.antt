@@ -7,7 +7,7 @@ use Rattle.mill_base.specs.Ranges.{MovesInRange}
 use Rattle.mill_board.specs.Works.{IsClosed, Means}
 use Rattle.mill_board.specs.declared.work.Held.{Held}
 use Rattle.mill_job.specs.declared.fields.JobFields.{JobFields}
-use Rattle.mill_job.specs.Jobs.{tool_of}
+use Rattle.mill_job.specs.Jobs.{part_tool_of}
 use Rattle.mill_job.specs.Columns.{row_count}
 use Rattle.mill_dexel.specs.Rows.{RowState, fresh_row}
 use Rattle.mill_dexel.specs.Stocks.{IsStockOf}
@@ -65,7 +65,7 @@ IsPieceAt w n t (Stock m r) = (m ≡ n) × (n ≡ blocks_of w + r.row) × (r ≡
 
 -- move t passes the tests of piece n: a block's are those against the part, and a row's those against the row's columns
 pub record PassesTest (w : TestsShown) (n t : ℕ) : Type 0 where
-  pub part : n < blocks_of w → ToolPassesPart (tool_of w.job) (move_at w.moves t) w.part
+  pub part : n < blocks_of w → ToolPassesPart (part_tool_of w.job) (move_at w.moves t) w.part
   pub stock : (j : ℕ) → n ≡ blocks_of w + j → ClearsRow w.job (row_before w.job w.moves (fresh_row w.job (stock_under w) j) t) (move_at w.moves t)
 
 -- piece n as its turn t leaves it, which it failed

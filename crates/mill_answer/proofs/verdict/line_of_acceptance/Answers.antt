@@ -1,11 +1,19 @@
-use Rattle.std.proofs.Common.{w32, rules}
+use Rattle.std.proofs.Common.{◌∙◌, rules, w32}
 use Rattle.std.specs.Prelude.{FitsSigned}
 use Rattle.std.proofs.lemmas.Int.{to_z-of_z}
+use Rattle.std.proofs.lemmas.Result.{IfOk-weaker}
+use Rattle.mill_answer.proofs.Margins.{accepted_line}
 use Rattle.mill_answer.proofs.verdict.line_of_acceptance.Goals as goal
 
 pub returns : goal.returns
 returns c =
-    let band_fits : FitsSigned w32 c.args.job.now.fields.band = search rules in
-    let allowance_fits : FitsSigned w32 c.args.job.now.fields.allowance = search rules in
+    let job = c.args.job.now.fields in
     let left_fits : FitsSigned w32 c.args.most_left = search rules in
-    simp to_z-of_z at c.line_of.ensures
+    let band_fits : FitsSigned w32 job.band = search rules in
+    let allowance_fits : FitsSigned w32 job.allowance = search rules in
+    let overcut_fits : FitsSigned w32 job.overcut = search rules in
+    let slack_fits : FitsSigned w32 job.slack = search rules in
+    IfOk-weaker c.line_with_margins.result _ _
+    (λ made is. is ∙ accepted_line job c.args.count c.args.columns c.args.most_left _ _ _ _ _ (to_z-of_z w32 c.args.most_left left_fits) (to_z-of_z w32 job.band band_fits)
+    (to_z-of_z w32 job.allowance allowance_fits) (to_z-of_z w32 job.overcut overcut_fits) (to_z-of_z w32 job.slack slack_fits))
+    c.line_with_margins.ensures

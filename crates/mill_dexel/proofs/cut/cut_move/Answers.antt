@@ -1,8 +1,13 @@
-use Rattle.std.proofs.Common.{◌≡◌, pos, subst, arith}
-use Rattle.std.proofs.lemmas.Int.{ints}
+use Rattle.std.specs.Prelude.{ℤ, ◌≤ℤ◌}
+use Rattle.std.proofs.Common.{◌≡◌, ◌∙◌, pos, ap, sym, subst, rules, w32, arith}
+use Rattle.std.proofs.lemmas.Int.{ints, to_z-of_z}
+use Rattle.mill_job.proofs.SolidFacts.{inner_lift, inner_ok}
+use Rattle.mill_job.specs.Solids.{inner_of}
 use Rattle.mill_base.specs.Sizes.{radius_of}
+use Rattle.mill_base.specs.Solids.{Solid}
+use Rattle.mill_base.specs.declared.cutter.Cutter.{Cutter}
 use Rattle.mill_job.specs.Columns.{column_y}
-use Rattle.mill_dexel.specs.Samples.{split_of}
+use Rattle.mill_dexel.specs.Samples.{raised_sample, sample_at, split_of}
 use Rattle.mill_dexel.specs.inner.Cuts.{IsCutBy}
 use Rattle.mill_dexel.proofs.Again.{first_starts}
 use Rattle.mill_dexel.proofs.CutRows.{samples_go_on, samples_end}
@@ -12,9 +17,22 @@ use Rattle.mill_dexel.proofs.cut.cut_move.Goals as goal
 
 pub returns-then-is_beyond : goal.returns-then-is_beyond
 returns-then-is_beyond c =
-    move_keeps c.args.job.now.fields c.args.number c.args.step.now c.args.tops.now c.args.job.now.is_job.cutter_ok
-    (beyond_same _ _ _ _ (radius_of c.args.job.now.fields.cutter) c.args.step.now.from.y c.args.step.now.to.y (column_y c.args.job.now.fields c.args.number)
-    (omega (arith, ints)) (omega (arith, ints)) (omega (arith, ints)) (omega (arith, ints)) (c.is_beyond.ensures.yes c.if-is_beyond.true))
+    let inner = inner_of c.args.job.now.fields in
+    let radius = to_z-of_z w32 c.radius.result (search rules) ∙ c.radius.ensures ∙ ap radius_of c.cutter-cutter.ensures.value ∙ ap (λ (s : Solid). radius_of s.cutter) c.inner.ensures in
+    move_keeps c.args.job.now.fields c.args.number c.args.step.now c.args.tops.now (inner_ok c.args.job.now.fields c.args.job.now.is_job).cutter_ok
+    (beyond_same _ _ _ _ (radius_of inner.cutter) c.args.step.now.from.y c.args.step.now.to.y (column_y c.args.job.now.fields c.args.number)
+    radius (omega (arith, ints)) (omega (arith, ints)) (omega (arith, ints)) (c.is_beyond.ensures.yes c.if-is_beyond.true))
+
+-- The lift, as it is stored, is the inner solid's.
+pub raised-requires-clause-lift_least : goal.raised-requires-clause-lift_least
+raised-requires-clause-lift_least c =
+    let lift = to_z-of_z w32 c.lift-lift.result (search rules) ∙ c.lift-lift.ensures.value ∙ ap (λ (s : Solid). s.lift) c.inner-2.ensures in
+    subst (λ (l : ℤ). (pos 0) ≤ℤ l) (sym lift) (inner_lift c.args.job.now.fields c.args.job.now.is_job).low
+
+pub raised-requires-clause-lift_most : goal.raised-requires-clause-lift_most
+raised-requires-clause-lift_most c =
+    let lift = to_z-of_z w32 c.lift-lift.result (search rules) ∙ c.lift-lift.ensures.value ∙ ap (λ (s : Solid). s.lift) c.inner-2.ensures in
+    subst (λ (l : ℤ). l ≤ℤ pos 3400) (sym lift) (inner_lift c.args.job.now.fields c.args.job.now.is_job).high
 
 pub loop-k-init : goal.loop-k-init
 loop-k-init c =
@@ -22,8 +40,13 @@ loop-k-init c =
 
 pub loop-k-preserved : goal.loop-k-preserved
 loop-k-preserved c =
+    let inner = inner_of c.args.job.now.fields in
+    let lift = to_z-of_z w32 c.lift-lift.result (search rules) ∙ c.lift-lift.ensures.value ∙ ap (λ (s : Solid). s.lift) c.inner-2.ensures in
+    let cutter = c.cutter-cutter.ensures.value ∙ ap (λ (s : Solid). s.cutter) c.inner.ensures in
+    let sample = c.sample_at-sample.ensures.value ∙ ap (λ (v : Cutter). sample_at v c.args.step.now c.halvings-d.result c.loop-k.k) cutter in
+    let same = c.raised.ensures.value ∙ ap (λ (l : ℤ). raised_sample l c.sample_at-sample.result) lift ∙ ap (raised_sample inner.lift) sample in
     samples_go_on c.args.job.now.fields c.args.number c.args.step.now c.halvings-d.result c.loop-k.k c.args.tops.now c.loop-k.tops c.cut_sample.new.tops c.loop-k.invariant
-    (subst (λ s. IsCutBy c.args.job.now.fields c.args.number s c.loop-k.tops c.cut_sample.new.tops) c.sample_at.ensures.value c.cut_sample.ensures)
+    (subst (λ s. IsCutBy c.args.job.now.fields c.args.number s c.loop-k.tops c.cut_sample.new.tops) same c.cut_sample.ensures)
 
 pub returns : goal.returns
 returns c =

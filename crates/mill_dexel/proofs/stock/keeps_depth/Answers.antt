@@ -16,5 +16,5 @@ loop-number-preserved c =
 
 pub returns-clause-yes : goal.returns-clause-yes
 returns-clause-yes c = λ yes feed done stock.
-    stock_passed c.args.job.now.fields c.args.step.now done c.args.rows.now c.row_reach-reach.result.first c.row_reach-reach.result.«end» c.loop-number.number c.args.job.now.is_job.cutter_ok c.requires.step c.row_reach-reach.ensures stock
+    stock_passed c.args.job.now.fields c.args.step.now done c.args.rows.now c.row_reach-reach.result.first c.row_reach-reach.result.«end» c.loop-number.number c.args.job.now.is_job c.requires.step c.row_reach-reach.ensures stock
     (passed_over (length c.args.rows.now) c.row_reach-reach.result.«end» c.min-number-end.result c.loop-number.number c.min-number-end.ensures c.loop-number-test.false) c.loop-number.invariant feed

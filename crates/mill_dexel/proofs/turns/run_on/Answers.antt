@@ -1,6 +1,9 @@
 use Rattle.std.proofs.Common.{◌<◌, length, rules, arith}
-use Rattle.mill_dexel.proofs.RunLaws.{run_more, run_stopped, run_ended, turn_cuts}
+use Rattle.mill_dexel.proofs.RunLaws.{run_more, run_none, run_stopped, run_ended, turn_cuts}
 use Rattle.mill_dexel.proofs.turns.run_on.Goals as goal
+
+pub loop-t-init : goal.loop-t-init
+loop-t-init c = (rw c.done-t.ensures (run_none c.args.job.now.fields c.args.moves.now c.args.row.now c.requires.unfailed c.requires.row), tt)
 
 pub loop-t-preserved : goal.loop-t-preserved
 loop-t-preserved c =

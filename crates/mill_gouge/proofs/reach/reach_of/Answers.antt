@@ -12,5 +12,5 @@ pub returns : goal.returns
 returns c = record {
   sweep = c.new.ensures;
   outside = outside_move _ c.args.solid c.args.step.now c.reach_box-low.result.0 (to_z w32 (of_z w32 c.reach_box-low.result.1)) c.new.ensures c.reach_box-low.ensures.area
-      (to_z-of_z w32 c.reach_box-low.result.1 (search rules) ∙ c.reach_box-low.ensures.low) c.is_in_range.ensures c.requires;
+      (to_z-of_z w32 c.reach_box-low.result.1 (search rules) ∙ c.reach_box-low.ensures.low) c.reach_box-low.ensures.solid_ok c.requires;
 }

@@ -9,6 +9,7 @@ returns c =
     let space = c.requires.space_ok in
     let measure = c.requires.measure_ok in
     let paths = c.requires.paths_ok in
+    let extras = c.requires.extras_ok in
     rw (
       stored_coordinate unit space.floor_ok,
       stored_coordinate unit space.top_ok,
@@ -22,5 +23,7 @@ returns c =
       stored_number paths.rough_raster_ok (record { le = tt }) (record { le = tt }),
       stored_number paths.layer_ok (record { le = tt }) (most unit),
       stored_number paths.rough_stock_ok (record { le = tt }) (record { le = tt }),
-      stored_number c.requires.extras_ok.max_cut_ok (record { le = tt }) (most unit),
+      stored_number extras.max_cut_ok (record { le = tt }) (most unit),
+      stored_number extras.slack_ok (record { le = tt }) (record { le = tt }),
+      stored_number extras.overcut_ok (record { le = tt }) (record { le = tt }),
     ) refl

@@ -80,7 +80,7 @@ returns-clause-value c =
     by_relations c.unless.result c.relation_fault.result c.assembled-fields.result (job_with unit ms) (key_faults_in unit ms ++ rest) c.unless.ensures c.relation_fault.ensures.value job relations
 
 pub relation_fault-requires : goal.relation_fault-requires
-relation_fault-requires c = rw c.assembled-fields.ensures (is_ranged c.args.unit c.in_ok-cutter.cutter c.in_ok-space.space c.in_ok-measure.measure c.in_ok-paths.paths c.in_ok-extras.extras c.in_ok-space.ensures.in_range c.in_ok-measure.ensures.in_range c.in_ok-paths.ensures.in_range)
+relation_fault-requires c = rw c.assembled-fields.ensures (is_ranged c.args.unit c.in_ok-cutter.cutter c.in_ok-space.space c.in_ok-measure.measure c.in_ok-paths.paths c.in_ok-extras.extras c.in_ok-cutter.ensures.in_range c.in_ok-space.ensures.in_range c.in_ok-measure.ensures.in_range c.in_ok-paths.ensures.in_range c.in_ok-extras.ensures.in_range)
 
 pub returns-clause-in_range : goal.returns-clause-in_range
 returns-clause-in_range c = rw c.unless.ensures (if_ok c.relation_fault.result _ IsJob (λ none.

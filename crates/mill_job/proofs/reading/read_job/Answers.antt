@@ -10,4 +10,4 @@ returns-in_err-fields c =
 
 pub returns : goal.returns
 unfolding fields_of
-returns c = c.in_ok-fields.ensures.gives
+returns c = rw c.new.ensures c.in_ok-fields.ensures.gives

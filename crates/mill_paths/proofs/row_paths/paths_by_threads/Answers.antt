@@ -23,7 +23,9 @@ pub returns : goal.returns
 returns g c =
     let ends = c.into_par_iter.ensures in
     let h = c.in_ok-collect.ensures {u = tt} in
-    let chain = rw (c.map.ensures.base, c.map.ensures.f, c.with_min_len.ensures.base) at h.1 in
+    let mapped = rw c.map.ensures.base at h.1 in
+    let each = rw c.map.ensures.f at mapped in
+    let chain = rw c.with_min_len.ensures.base at each in
     let numbers : chain.0 ≡ range_with_len c.args.rows.start (c.args.rows.end - c.args.rows.start) = chain.1 ∙ (λ i. nat_range (ends.0 i) (ends.1 i)) in
     subst (λ (ks : List ℕ). IfOk c.in_ok-collect.field-0 (λ paths. AllZip (IsTurnedPath c.args.job.now.fields c.args.part.now c.args.tol) ks (map (λ path. path.items) paths.items))) numbers
     (when_counted _ (λ v. v.items) chain.0 h.0 chain.2 (IsTurnedPath c.args.job.now.fields c.args.part.now c.args.tol) (λ path. path.items) (λ k v p. rw (band_kept c.args.tol c.requires.tol_ok.low c.requires.tol_ok.high) at p) c.in_ok-collect.field-0 h.2)

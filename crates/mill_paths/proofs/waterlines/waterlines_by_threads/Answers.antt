@@ -21,7 +21,9 @@ pub returns : goal.returns
 returns g c =
     let ends = c.into_par_iter.ensures in
     let h = c.in_ok-collect.ensures {u = tt} in
-    let chain = rw (c.map.ensures.base, c.map.ensures.f, c.with_min_len.ensures.base) at h.1 in
+    let mapped = rw c.map.ensures.base at h.1 in
+    let each = rw c.map.ensures.f at mapped in
+    let chain = rw c.with_min_len.ensures.base at each in
     let whole : length c.as_slice.result.now - 0 ≡ length c.as_slice.result.now = omega arith in
     let all : length c.as_slice.result.now ≡ length c.args.job.now.fields.levels = ap (λ zs. length zs) c.as_slice.ensures.list in
     let numbers : chain.0 ≡ range_with_len 0 (length c.args.job.now.fields.levels) = chain.1 ∙ (λ i. nat_range (ends.0 i) (ends.1 i)) ∙ ap (range_with_len 0) (whole ∙ all) in

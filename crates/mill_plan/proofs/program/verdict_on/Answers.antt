@@ -14,7 +14,7 @@ verdict_on_stock-requires-clause-moves_ok g c = moves_of_unit c.args.job.now.fie
 
 pub verdict_on_stock-requires-clause-good : goal.verdict_on_stock-requires-clause-good
 verdict_on_stock-requires-clause-good g c =
-    good c.args.job.now.fields c.args.part.now (home c.args.job.now.fields) (home c.args.job.now.fields) c.args.moves.now
+    good c.args.job.now.fields c.args.part.now (home c.args.job.now.fields) (home c.args.job.now.fields) c.args.moves.now c.args.job.now.is_job
     (c.is_decided_by_stock.ensures.bare c.if-is_decided_by_stock.true) c.requires.safe
 
 pub verdict_on_stock-requires-clause-rows_ok : goal.verdict_on_stock-requires-clause-rows_ok

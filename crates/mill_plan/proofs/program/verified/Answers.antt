@@ -9,7 +9,7 @@ use Rattle.mill_plan.proofs.program.verified.Goals as goal
 
 pub unreachable-requires : goal.unreachable-requires
 unreachable-requires g c =
-    no_other c.args.job.now.fields c.args.part.now c.args.moves.now c.in-Reject.reason c.requires.safe
+    no_other c.args.job.now.fields c.args.part.now c.args.moves.now c.in-Reject.reason c.args.job.now.is_job c.requires.safe
     (subst (λ (v : Verdict). IsVerdict c.args.job.now.fields c.args.part.now c.args.moves.now v) c.in-Reject.is c.in_ok-count.ensures.verdict) c.in_default.not-Left c.in_default.not-HolderStock
 
 pub returns-in_ok-program-in-Accept-clause-planned : goal.returns-in_ok-program-in-Accept-clause-planned

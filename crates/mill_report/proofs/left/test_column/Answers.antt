@@ -1,8 +1,12 @@
 use Rattle.std.specs.Prelude.{IsTrue, pos, slice_index_or}
 use Rattle.std.proofs.Common.{◌∙◌}
 use Rattle.mill_base.proofs.Ranges.{coordinate, within_of_unit}
-use Rattle.mill_report.proofs.Lefts.{column_cut, left_bare, left_more, not_true, stored_within, top_from, top_is, top_within}
+use Rattle.mill_report.proofs.Lefts.{column_cut, in_row, left_bare, left_more, not_true, stored_within, top_from, top_is, top_within}
 use Rattle.mill_report.proofs.left.test_column.Goals as goal
+
+pub bounds-tops-col : goal.bounds-tops-col
+bounds-tops-col c =
+    in_row c.args.job.now.fields c.args.rows.now c.args.job.now.is_job c.args.number c.args.col c.index-rows-number.result c.tops.result.now c.requires.count c.requires.column c.index-rows-number.is c.tops.ensures c.requires.rows_ok
 
 pub is_cut-requires-clause-top_ok : goal.is_cut-requires-clause-top_ok
 is_cut-requires-clause-top_ok c =

@@ -7,11 +7,11 @@ use Rattle.mill_report_run.proofs.lifts.least_units.Goals as goal
 pub overflow_cast-result : goal.overflow_cast-result
 overflow_cast-result c =
     let small : c.least_lift.result ≤ 2 * MAX_COORDINATE =
-    lift_small c.over_part_passes.ensures c.passes_from_lift.ensures c.args.tool.now c.args.part.now c.args.step.now c.least_lift.result c.requires.lowest c.requires.step_ok c.requires.room_ok c.least_lift.ensures in
+    lift_small c.over_part_passes.ensures c.passes_from_lift.ensures c.args.tool.now c.args.part.now c.args.step.now c.least_lift.result c.requires.step_ok c.requires.room_ok c.least_lift.ensures in
     omega arith
 
 pub returns : goal.returns
 returns c =
     let small : c.least_lift.result ≤ 2 * MAX_COORDINATE =
-    lift_small c.over_part_passes.ensures c.passes_from_lift.ensures c.args.tool.now c.args.part.now c.args.step.now c.least_lift.result c.requires.lowest c.requires.step_ok c.requires.room_ok c.least_lift.ensures in
+    lift_small c.over_part_passes.ensures c.passes_from_lift.ensures c.args.tool.now c.args.part.now c.args.step.now c.least_lift.result c.requires.step_ok c.requires.room_ok c.least_lift.ensures in
     (c.least_lift.result, omega (arith, ints), c.least_lift.ensures)

@@ -17,10 +17,13 @@ overflow_add-result c =
     rw (c.lift.ensures.value)
     (sum_fits w32 (c.lower_end.result ∷ s ∷ []) (MAX_COORDINATE ∷ MAX_COORDINATE ∷ []) (Read w32 0) (Read w32 1) (c.lower_end.ensures.bound.within, (small s lift.least lift.within, tt)) refl)
 
-pub returns : goal.returns
-returns c =
+pub returns-clause-value : goal.returns-clause-value
+returns-clause-value c =
     let s = c.args.solid.lift in
     let lift = rw (c.lift.ensures.value) at c.lift.ensures.in_range in
     rw (c.lift.ensures.value)
     (exact (c.lower_end.result ∷ s ∷ []) (MAX_COORDINATE ∷ MAX_COORDINATE ∷ []) (Sum w32 (Read w32 0) (Read w32 1)) (c.lower_end.ensures.bound.within, (small s lift.least lift.within, tt)) refl
     ∙ (rw (c.lower_end.ensures.value) refl ∙ sym (low_end_lifted c.args.solid c.args.step.now)))
+
+pub returns-clause-lift_ok : goal.returns-clause-lift_ok
+returns-clause-lift_ok c = rw (c.lift.ensures.value) at c.lift.ensures.in_range

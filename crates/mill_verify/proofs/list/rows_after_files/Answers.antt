@@ -1,6 +1,6 @@
-use Rattle.std.proofs.Common.{refl, rules, arith}
+use Rattle.std.proofs.Common.{refl, arith}
 use Rattle.mill_verify.specs.inner.Readiness.{AreAsked}
-use Rattle.mill_verify.proofs.Filed.{all_passed, none_passed, passed_so, starts_so, stopped_so}
+use Rattle.mill_verify.proofs.Filed.{all_passed, moves_so, none_passed, passed_so, starts_so, stopped_so}
 use Rattle.mill_verify.proofs.list.rows_after_files.Goals as goal
 
 pub loop-number-init : goal.loop-number-init
@@ -8,11 +8,13 @@ loop-number-init g c = none_passed c.args.job.now.fields c.args.part.now c.args.
 
 pub rows_after-requires-clause-asked : goal.rows_after-requires-clause-asked
 rows_after-requires-clause-asked g c =
+    let moves = moves_so c.args.job.now.fields c.args.part.now c.args.files.now c.loop-number.number c.args.job.now.is_job c.loop-number-test.true c.loop-number.start c.loop-number.invariant
+    c.index-files-number.result c.job_with-job.result.fields c.moves-moves.result.now c.index-files-number.is c.job_with-job.ensures c.moves-moves.ensures c.requires.files_ok in
     let asked : AreAsked c.job_with-job.result.fields c.loop-number.start c.moves-moves.result.now = record {
       start_ok = starts_so c.args.job.now.fields c.args.part.now c.args.files.now c.loop-number.number c.args.job.now.is_job c.loop-number-test.true c.loop-number.start c.loop-number.invariant
           c.index-files-number.result c.job_with-job.result.fields c.moves-moves.result.now c.index-files-number.is c.job_with-job.ensures c.moves-moves.ensures;
-      moves_ok = search rules;
-      few = search rules;
+      moves_ok = moves.0;
+      few = moves.1;
     } in
     asked
 

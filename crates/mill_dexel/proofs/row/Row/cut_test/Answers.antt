@@ -16,7 +16,7 @@ returns-clause-none c = λ none tested.
     none
     (subst
     (λ (s : Solid). MatchOption c.first_stop.result (PassesRow c.args.job.now.fields (trying s Feed c.args.step.now) c.args.self.now) (λ f. IsFirstStop c.args.job.now.fields (trying s Feed c.args.step.now) c.args.self.now f.0 f.1))
-    c.at_tip.ensures c.first_stop.ensures.first)
+    c.stock_solid.ensures c.first_stop.ensures.first)
 
 pub returns-clause-tested : goal.returns-clause-tested
 returns-clause-tested c = each c.first_stop.result

@@ -10,4 +10,4 @@ pub returns-clause-first : goal.returns-clause-first
 returns-clause-first c =
     subst
     (λ (s : Solid). MatchOption c.first_stop.result (PassesRow c.args.job.now.fields (trying s Rapid c.args.step.now) c.args.self.now) (λ f. IsFirstStop c.args.job.now.fields (trying s Rapid c.args.step.now) c.args.self.now f.0 f.1))
-    c.at_tip.ensures c.first_stop.ensures.first
+    c.stock_solid.ensures c.first_stop.ensures.first

@@ -1,4 +1,4 @@
--- The lesser and the greater of two heights.
+-- The lesser and the greater of two numbers.
 use Rattle.std.proofs.Common.{◌≡◌, ◌⊎◌, inl, inr, refl, Bool, true, false, arith}
 use Rattle.std.specs.Prelude.{ℤ, ◌<ℤ◌, ◌≤ℤ◌, cond, int_lt}
 use Rattle.std.specs.Int.{int_max}
