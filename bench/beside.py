@@ -29,6 +29,11 @@ def best(name, words):
     return min(runs).seconds, runs[0].printed.strip()
 
 
+def same_counts(line, other):
+    """Whether two lines `accepted moves M columns C left ..` have the same M and C."""
+    return line.split()[:5] == other.split()[:5]
+
+
 def measure(folder, name, cutter, workers, word, keys_of):
     """A row of the table, and whether the plan with the keys is accepted by both jobs."""
     (job, free), part = make_inputs(folder, name, cutter, word, keys_of)
@@ -42,7 +47,8 @@ def measure(folder, name, cutter, workers, word, keys_of):
     row = [name, cutter, f"{workers}", line.split()[2], other_line.split()[2]]
     row += [f"{planned:.2f}", f"{freely:.2f}", f"{planned / freely:.2f}"]
     row += [f"{verified:.2f}", f"{loosely:.2f}", f"{verified / loosely:.2f}"]
-    agrees = verdict == other_verdict and verdict.startswith("accepted " + line.partition(" ")[2])
+    # (what is left, and what was judged with, may differ by the keys)
+    agrees = verdict.startswith("accepted " + line.partition(" ")[2]) and same_counts(verdict, other_verdict)
     if not agrees:
         print(f"{name}, {cutter}: {line}; {verdict}; {other_verdict}", file=sys.stderr)
     return row, agrees

@@ -10,7 +10,7 @@ import typing
 
 ROOT = os.path.dirname(os.path.dirname(os.path.abspath(__file__)))
 JOB = """cutter = "flat"
-radius = 298
+radius = 300
 floor = 0
 top = 800
 clear = 2000
@@ -20,11 +20,12 @@ pitch = 50
 sample = 50
 allowance = 5
 band = 100
+overcut = 2
 """
 LIST = """[[steps]]
 program = "program.ngc"
 cutter = "flat"
-radius = 298
+radius = 300
 [[steps]]
 program = "corners.ngc"
 cutter = "flat"
@@ -186,7 +187,7 @@ def crlf(text):
 
 def in_whole_millimetres(case):
     """The job has millimetres, and no hundredths."""
-    case.job = re.sub(r"\b(\d+)00\b", r"\1", case.job).replace("radius = 298", "radius = 3").replace("= 50", "= 1").replace("= 5\n", "= 1\n")
+    case.job = re.sub(r"\b(\d+)00\b", r"\1", case.job).replace("= 50", "= 1").replace("= 5\n", "= 1\n")
 
 
 def with_misspelt_key(case):
@@ -222,8 +223,14 @@ def in_another_folder(case):
 
 def with_wrong_tool_unjudged(case):
     """Another tool is put in, and what is left isn't judged."""
-    case.key("radius", 248)
+    case.key("radius", 250)
     case.key("allowance", 10000)
+
+
+def with_a_lesser_radius(case):
+    """The radius is less than the tool's, for a path that slides along walls."""
+    case.key("radius", 298)
+    case.key("overcut", 0)
 
 
 def cutting_air(case):
@@ -316,13 +323,13 @@ MISTAKES = {
         Mistake("X and Y swapped", with_axes_swapped, (r"with X and Y swapped the program is accepted",)),
         Mistake("a comma in the program", lambda it: it.replace("X11.00", "X11,00"), (r"`X11,00`", r"`X11\.00`", r"comma")),
         Mistake("a comma in the job", key("radius", "2,98"), (r"radius = 2,98", r"comma", r"`radius = 298`")),
-        Mistake("the diameter for the radius", key("radius", "600"), (r"`radius = 298`", r"is 6\.00 mm the cutter's diameter")),
+        Mistake("the diameter for the radius", key("radius", "600"), (r"`radius = 300`", r"is 6\.00 mm the cutter's diameter")),
         Mistake("a byte order mark", written("program.ngc", lambda it: b"\xef\xbb\xbf" + it), (r"byte order mark", r"without one")),
         Mistake("UTF-16", written("program.ngc", lambda it: it.decode().encode("utf-16")), (r"UTF-16", r"UTF-8")),
         Mistake("job and part swapped", swap(0, 1), (r"is a part", r"camtool verify job\.toml part\.stl program\.ngc")),
         Mistake("a list in another folder", in_another_folder, (r"looked for from the folder", r"lists/program\.ngc")),
-        Mistake("tools swapped in a list", lambda it: it.steps(LIST.replace("298", "0").replace("150", "298").replace("= 0\n", "= 150\n")), (r"radii of steps 0 and 1 swapped",)),
-        Mistake("a tool of 5 mm for 6", key("radius", "248"), (r"6 mm across, and the job's radius is 2\.48 mm",)),
+        Mistake("tools swapped in a list", lambda it: it.steps(LIST.replace("300", "0").replace("150", "300").replace("= 0\n", "= 150\n")), (r"radii of steps 0 and 1 swapped",)),
+        Mistake("a tool of 5 mm for 6", key("radius", "250"), (r"6 mm across, and the job's radius is 2\.50 mm",)),
         Mistake("a cutter of 0.6 mm", key("radius", "30"), (r"`radius = 30`", r"0\.60 mm across")),
         Mistake("all tools in one Grbl file", all_tools_in_one, (r"the tools T1, T2; camtool judges one cutter a program",)),
     ],
@@ -333,7 +340,8 @@ MISTAKES = {
         Mistake("T7 for T1", lambda it: it.replace("M6 T1", "M6 T7"), (r"calls T7, and its comment says",)),
         Mistake("an area smaller than the part", key("area", "[0, 0, 3000, 2000]"), (r"part: it reaches out of area",)),
         Mistake("a pitch of 5 mm", key("pitch", "500"), (r"note: pitch: the cutter fits between four columns",)),
-        Mistake("a tool of 5 mm for 6, allowance 10000", with_wrong_tool_unjudged, (r"`allowance` is as high as the whole stock", r"6 mm across, and the job's radius is 2\.48 mm")),
+        Mistake("a tool of 5 mm for 6, allowance 10000", with_wrong_tool_unjudged, (r"`allowance` is as high as the whole stock", r"6 mm across, and the job's radius is 2\.50 mm")),
+        Mistake("a radius of 2.98 for a tool of 6 mm", with_a_lesser_radius, (r"radius is 0\.02 mm less than half of that", r"`overcut = 2`")),
         Mistake("cuts only air, allowance 10000", cutting_air, (r"`allowance` is as high as the whole stock", r"lowest feed, Z14\.00, isn't under top: it cuts nothing")),
         Mistake("a part 13 mm too low, allowance 10000", too_low, (r"`allowance` is as high as the whole stock", r"lies under floor")),
     ],

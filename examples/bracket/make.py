@@ -37,8 +37,8 @@ HOLES = ((15, 20, 2.5), (40, 20, 2.5), (56, 20, 1.75))
 # How deep the tip of a drill of 118 degrees goes under the part, so that the hole is whole there: by its radius over
 # the tangent of 59 degrees, and some more.
 UNDER = 2.0
-# The point of a drill in the board is cut so much deeper than the drill goes, and the chamfer is left so much too high,
-# since a path that only touches is refused.
+# The point of a drill in the board is cut so much deeper than the drill goes, and the chamfer is left so much too high: so
+# their paths don't even touch the part.
 KEPT_OFF = 0.05
 
 

@@ -10,8 +10,8 @@ import tempfile
 
 from camtool import programs, texts
 
-# By how many units the radius is at most taken less for a touch.
-TOUCH = 5
+# By how many units an overcut is raised for a touch, by the unit's decimals; in thousandths facets and chords are more.
+TOUCH = {2: (1, 2, 3, 4, 5), 3: (1, 2, 3, 4, 5, 10, 15)}
 
 
 def changed(text, key, value, number=0):
@@ -22,6 +22,11 @@ def changed(text, key, value, number=0):
         return None
     it = found[number]
     return text[: it.end(1)] + str(value).encode("ascii") + text[it.end():]
+
+
+def with_key(text, key, value):
+    """Returns the bytes of a job with a whole number at a key, which is put behind the others where it isn't there."""
+    return changed(text, key, value) or b"%s\n%s = %d\n" % (text, key.encode("ascii"), value)
 
 
 class Judging:
@@ -37,11 +42,10 @@ class Judging:
             with open(name, "rb") as file:
                 self.texts.append(file.read())
         self.is_list = names[2].endswith(".toml")
-        if self.is_list:
-            # (a step's place among those in the list's text)
-            self.cutters = texts.steps_of(self.texts[1])
-        else:
-            self.cutters = [texts.job_of(self.texts[0])]
+        job = texts.job_of(self.texts[0])
+        self.grid, self.overcut = texts.Grid(job), job.get("overcut", 0)
+        # (a step's place among those in the list's text)
+        self.cutters = texts.steps_of(self.texts[1]) if self.is_list else [job]
 
     def radius(self):
         """Returns the radius of the cutter that is rejected, in units."""
@@ -58,13 +62,19 @@ class Judging:
         ended = programs.run("camtool", "rest" if self.is_list else "verify", *names)
         return ended.stdout.decode("utf-8", "replace").strip()
 
-    def with_radius(self, radius):
-        """Returns camtool's line with another radius of the cutter, or "" where that can't be asked."""
+    def with_overcut(self, more):
+        """Returns camtool's line with an overcut that is so many units more."""
+        return self.verdict(job=with_key(self.texts[0], "overcut", self.overcut + more))
+
+    def with_radius(self, radius, more=0):
+        """Returns camtool's line with another radius of the cutter, and with an overcut that is so many units more, or ""
+        where that can't be asked."""
+        job = with_key(self.texts[0], "overcut", self.overcut + more) if more else self.texts[0]
         if self.is_list:
-            text = changed(self.texts[1], "radius", radius, self.step)
-            return self.verdict(steps=text) if text else ""
-        text = changed(self.texts[0], "radius", radius)
-        return self.verdict(job=text) if text else ""
+            steps = changed(self.texts[1], "radius", radius, self.step)
+            return self.verdict(job=job if more else None, steps=steps) if steps else ""
+        job = changed(job, "radius", radius)
+        return self.verdict(job=job) if job else ""
 
 
 def is_past(line, verdict):
@@ -82,33 +92,37 @@ def passes(line):
     return "the whole program passes" if line.startswith("accepted") else f"this move passes, and then the answer is: {line}"
 
 
-def tell_touch(judging, verdict, grid):
-    """Returns the line on a cutter that is only a little less and passes, or none."""
-    radius = judging.radius()
-    lines = {less: judging.with_radius(radius - less) for less in range(1, TOUCH + 1) if radius > less}
-    whole = [less for less, line in lines.items() if line.startswith("accepted")]
-    past = whole or [less for less, line in lines.items() if is_past(line, verdict)]
+def tell_touch(judging, verdict):
+    """Returns the line on an overcut that is only a little more and passes, or none. A move that goes too deep into a level face
+    would pass so too, and is no touch: so there is a line where a lesser radius passes, as along a wall, and of a cone."""
+    tried, is_cone = TOUCH[judging.grid.places], judging.cutters[judging.step or 0]["cutter"] == "cone"
+    if not is_cone and not is_past(judging.with_radius(max(judging.radius() - tried[-1], 1)), verdict):
+        return []
+    lines = {more: judging.with_overcut(more) for more in tried}
+    whole = [more for more, line in lines.items() if line.startswith("accepted")]
+    past = whole or [more for more, line in lines.items() if is_past(line, verdict)]
     if not past:
         return []
-    less = past[0]
-    return [f"it is only a touch: with `radius = {radius - less}`, {grid.millimetres(less)} mm less, {passes(lines[less])}"]
+    overcut = judging.overcut + past[0]
+    return [f"it is only a touch: with `overcut = {overcut}`, by which the part may be cut {judging.grid.millimetres(overcut)} mm deep, {passes(lines[past[0]])}"]
 
 
-def tell_diameter(judging, grid):
-    """Returns the line on a radius that may be a diameter, or none: with half of it, or a touch less, the whole passes."""
+def tell_diameter(judging):
+    """Returns the line on a radius that may be a diameter, or none: with half of it, or with a touch too, the whole passes."""
     half = judging.radius() // 2
-    for radius in (half, half - 2, half - TOUCH):
-        if radius > 0 and judging.with_radius(radius).startswith("accepted"):
-            return [f"with half the radius, `radius = {radius}`, the whole program passes: is {grid.millimetres(judging.radius())} mm the cutter's diameter?"]
+    for more in (0, 2, TOUCH[judging.grid.places][-1]):
+        if half and judging.with_radius(half, more).startswith("accepted"):
+            and_touch = f" and `overcut = {judging.overcut + more}`," if more else ""
+            return [f"with half the radius, `radius = {half}`,{and_touch} the whole program passes: is {judging.grid.millimetres(judging.radius())} mm the cutter's diameter?"]
     return []
 
 
-def tell_tenfold(judging, grid):
+def tell_tenfold(judging):
     """Returns the line on a radius that may be ten times too small, or none."""
     radius = judging.radius()
     if not judging.with_radius(10 * radius).startswith("accepted"):
         return []
-    return [f"with ten times the radius, `radius = {10 * radius}`, the whole program passes: this one is {grid.millimetres(radius)} mm"]
+    return [f"with ten times the radius, `radius = {10 * radius}`, the whole program passes: this one is {judging.grid.millimetres(radius)} mm"]
 
 
 def tell_swapped(judging):
@@ -122,12 +136,12 @@ def tell_swapped(judging):
     return []
 
 
-def tell_inches(judging, grid):
+def tell_inches(judging):
     """Returns the line on a program whose numbers may be inches, or none: its greatest height is under the stock's top, and
     times 25.4 its places lie over the stock."""
     if judging.is_list:
         return []
-    job = texts.job_of(judging.texts[0])
+    job, grid = texts.job_of(judging.texts[0]), judging.grid
     ends = [it.end for it in texts.moves_of(judging.texts[1], texts.start_of(job), grid)]
     high = max((it[2] for it in ends), default=job["clear"])
     around = 2 * job["radius"]
@@ -151,12 +165,14 @@ def tell_again(names, verdict):
     with tempfile.TemporaryDirectory(prefix="camtool-") as folder:
         try:
             judging = Judging(names, step, folder)
-            grid = texts.Grid(texts.job_of(judging.texts[0]))
-            said = tell_swapped(judging) if judging.is_list else tell_inches(judging, grid)
+            said = tell_swapped(judging) if judging.is_list else tell_inches(judging)
+            # (no overcut counts for a holder)
+            if not said and test == "gouge":
+                said = tell_touch(judging, verdict)
             if not said and test in ("gouge", "holder"):
-                said = tell_touch(judging, verdict, grid) or tell_diameter(judging, grid)
+                said = tell_diameter(judging)
             if not said and test in ("left", "rapid") and step is None and not judging.is_list:
-                said = tell_tenfold(judging, grid)
+                said = tell_tenfold(judging)
         except (OSError, ValueError, KeyError, TypeError, IndexError, AttributeError):
             return []
     return said

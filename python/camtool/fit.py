@@ -34,6 +34,8 @@ TURNS = (
 # The most columns of the copies that are judged, and how many copies are; and the most triangles of a part of which copies
 # are made, so that an answer takes seconds.
 COLUMNS, JUDGED, TRIANGLES = 1_500, 6, 20_000
+# The keys for a machine that isn't exact.
+MARGINS = ("slack", "overcut", "graze")
 # By how much of all columns a changed part has to agree better with what the program leaves.
 BETTER = 0.04
 
@@ -190,7 +192,7 @@ class Case:
         fine = 1 if job.get("unit") == "thousandth" or change.scale == 1 else 10
         units = lambda it: round(it / self.mm * fine)
         box = box_after(self.stock, change)
-        for key in ("radius", "pitch", "sample", "allowance", "band", "holder_radius", "stickout", "max_cut", "layer"):
+        for key in ("radius", "pitch", "sample", "allowance", "band", "holder_radius", "stickout", "max_cut", "layer", *MARGINS):
             if key in job:
                 job[key] = max(round(job[key] * change.scale * fine), 1 if job[key] else 0)
         home = moved([it * self.mm for it in (*job["home"], 0)], change)

@@ -29,8 +29,8 @@ __all__ = ["Job", "main", "suspects"]
 
 # A cutter of less across than this, in millimetres, is more likely one whose radius was written in millimetres.
 LEAST_ACROSS = 0.2
-# By how much less a job's cutter may be across than its tool, in millimetres, for paths that slide along walls; and by how
-# much more, as it was measured.
+# By how much less a job's cutter may be across than its tool is called, in millimetres, as one that was ground anew; and by
+# how much more, as it was measured.
 LESS, MORE = 0.12, 0.02
 
 
@@ -220,6 +220,11 @@ def notes_on_tool(job, facts, number):
             more = "; is that the diameter?" if abs(job.radius / 10**job.grid.places - float(tool.diameter)) < 0.015 else ""
             yield (f'line {line} says "{tool.name}", {cutters.short(tool.diameter)} mm across, and the job\'s radius is {job.mm(job.radius)}, '
                    f"{job.mm(2 * job.radius)} across{more}")
+        elif tool.diameter and not job.overcut and "size" not in forms and units_less(tool, job) >= 1:
+            forms.add("size")
+            less = math.ceil(units_less(tool, job) - 1e-6)
+            yield (f'line {line} says "{tool.name}", and the job\'s radius is {job.mm(less)} less than half of that: is it as measured? '
+                   f"For a path that slides along walls write the tool's own, and `overcut = {less}`")
         form = "cone" if tool.kind == "drill" else tool.kind
         if form not in (None, job.cutter) and "form" not in forms and (tool.number or tool.diameter):
             forms.add("form")
@@ -229,6 +234,11 @@ def notes_on_tool(job, facts, number):
 def is_across(tool, job):
     """Returns whether a comment's tool is as wide as the job's cutter, but for what that is less or more."""
     return -MORE <= float(tool.diameter) - 2 * job.radius / 10**job.grid.places <= LESS
+
+
+def units_less(tool, job):
+    """Returns by how many units a job's radius is less than half of what a comment's tool is across."""
+    return float(tool.diameter) * 10**job.grid.places / 2 - job.radius
 
 
 def notes_on_order(steps):

@@ -9,13 +9,14 @@ from functools import cached_property
 from camtool import cutters, parts
 from camtool.cutters import short
 
-# By how much less than the tool's own the radius is written, in millimetres. A path that slides along a wall touches it, to
-# the rounding of the program's places, the part's corners and its facets, and a touch is refused.
-LESS = {"hundredth": Decimal("0.05"), "thousandth": Decimal("0.015")}
-# How many units a millimetre has, the greatest coordinate and the greatest distance, in millimetres.
+# How deep a program may cut the part where nobody says it, in millimetres. A path that slides along a wall touches it, to the
+# rounding of the program's places, the part's corners and its facets, and without an overcut a touch is refused.
+OVERCUT = {"hundredth": Decimal("0.05"), "thousandth": Decimal("0.015")}
+# How many units a millimetre has; the greatest coordinate, the greatest distance and the greatest overcut, in millimetres.
 UNITS = {"hundredth": 100, "thousandth": 1000}
 REACH = {"hundredth": Decimal("1310.71"), "thousandth": Decimal("524.287")}
 WIDEST = {"hundredth": Decimal(100), "thousandth": Decimal(10)}
+DEEPEST = {"hundredth": Decimal(5), "thousandth": Decimal("0.5")}
 # The pitches that are tried, in millimetres, the finest last; the most columns of a job, and as many as answer quickly.
 PITCHES = [Decimal(it) for it in "5 4 2.5 2 1.5 1 0.8 0.5 0.4 0.3 0.25 0.2 0.15 0.1 0.08 0.05 0.04 0.02 0.01".split()]
 COLUMNS, QUICK = 4_000_000, 300_000
@@ -49,6 +50,7 @@ KEYS = (
     Key("sample", "near", "find_sample"),
     Key("allowance", "near", "find_allowance"),
     Key("band", "high", "find_band"),
+    Key("overcut", "low", "find_overcut"),
     Key("layer", "near", "find_layer"),
     Key("rough_stock", "near", "find_rough_stock"),
     Key("max_cut", "near", "find_max_cut"),
@@ -112,9 +114,8 @@ class Setup:
         return self.tools[0]
 
     def radius_of(self, tool):
-        """A tool's radius as the job has it."""
-        less = 0 if self.is_plan else LESS[self.unit]
-        return max(rounded(tool.diameter / 2 - less, self.least, ROUND_FLOOR), self.least)
+        """A tool's radius as the job has it: its own, to a whole unit, so that the judged cutter holds it."""
+        return rounded(tool.diameter / 2, self.least, ROUND_CEILING)
 
     @cached_property
     def radius(self):
@@ -128,10 +129,7 @@ class Setup:
 
     def find_radius(self):
         """The cutter's radius."""
-        half = f"half of {short(self.tool.diameter)} mm"
-        if self.is_plan:
-            return Value(self.radius, half)
-        return Value(self.radius, f"{half}, less {short(LESS[self.unit])} mm, since a path that slides along a wall touches it and a touch is refused")
+        return Value(self.radius, f"half of {short(self.tool.diameter)} mm" + ("" if 2 * self.radius == self.tool.diameter else ", rounded up"))
 
     def slope(self):
         """The rise and the run of a cone; None of other forms."""
@@ -341,6 +339,22 @@ class Setup:
             return Value(min(rounded(most / 3, self.least, ROUND_CEILING), most), "a third of the smallest radius, since a round cutter can't come into inner corners; stock left so near to a wall isn't judged; --band sets it", True)
         wanted = max(BAND, rounded(self.reach * 3 / 2, self.least, ROUND_CEILING))
         return Value(min(wanted, most), "stock left so near to a wall isn't judged; --band sets it", True)
+
+    # ---- how deep the part may be cut
+
+    @cached_property
+    def overcut(self):
+        """How deep a program may cut the part: what is asked for, or as much as sliding paths take, if a job takes that."""
+        wanted = OVERCUT[self.unit] if self.asked.overcut is None else self.asked.overcut
+        most = min(map(self.radius_of, self.tools)) - self.least
+        return rounded(min(wanted, most, DEEPEST[self.unit]), self.least, ROUND_FLOOR)
+
+    def find_overcut(self):
+        """How deep a program may cut the part. A plan keeps off it, and takes none."""
+        if self.is_plan or not self.overcut:
+            return None
+        why, is_asked = "how far the tool may come into the part", self.asked.overcut is not None
+        return Value(self.overcut, why if is_asked else f"{why}, as by a path that slides along a wall; --overcut sets it", not is_asked)
 
     # ---- what a plan takes
 

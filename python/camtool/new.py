@@ -1,4 +1,4 @@
-"""camtool-new PART [PROGRAM..] [--tools=TABLE] [--tool=N ..] [--stock=X,Y,Z|MARGIN] [--allowance=MM] [--band=MM] [--layer=MM] [-o FOLDER] [--force]
+"""camtool-new PART [PROGRAM..] [--tools=TABLE] [--tool=N ..] [--stock=X,Y,Z|MARGIN] [--allowance=MM] [--band=MM] [--overcut=MM] [--layer=MM] [-o FOLDER] [--force]
 
 Makes the job for a part and the programs that cut it: job.toml, and for several programs list.toml, which names them in
 the order of the call, each with its cutter. With no program it makes a job for `camtool plan`. All that it takes from
@@ -17,6 +17,7 @@ guess is marked `guessed:` there, and told: look at these numbers, or call it ag
 --stock=X,Y,Z,X,Y,Z  the stock's least and greatest corner
 --allowance=MM     how much may be left standing; 0.1 if left out
 --band=MM          how far from a wall nothing that stands is told
+--overcut=MM       how far a program may come into the part; 0.05 if left out, in thousandths 0.015
 --layer=MM         for a plan: how much roughing takes off at a time
 -o FOLDER          where the files go; the current folder if left out
 --force            write over files that are there
@@ -32,7 +33,7 @@ from camtool import causes, command, cutters, fit, parts
 from camtool.command import read, stop
 from camtool.cutters import short
 from camtool.facts import Facts
-from camtool.keys import KEYS, REACH, STEP_KEYS, UNITS, WIDEST, Setup
+from camtool.keys import DEEPEST, KEYS, REACH, STEP_KEYS, UNITS, WIDEST, Setup
 
 
 # ---- what is written
@@ -102,12 +103,15 @@ class Asked:
     def __init__(self, words):
         self.part, self.programs, self.table, self.tools = words.part, words.programs, words.tools, words.tool or []
         self.folder, self.force = words.o, words.force
-        self.allowance, self.band, self.layer = (length_of(it, getattr(words, it)) for it in ("allowance", "band", "layer"))
+        lengths = (length_of(it, getattr(words, it)) for it in ("allowance", "band", "overcut", "layer"))
+        self.allowance, self.band, self.overcut, self.layer = lengths
         self.stock = [length_of("stock", it, True) for it in words.stock.split(",")] if words.stock else []
         if len(self.stock) not in (0, 1, 3, 6) or (len(self.stock) == 1 and self.stock[0] < 0):
             stop("--stock takes a margin, three sides X,Y,Z, or two corners X,Y,Z,X,Y,Z, in millimetres")
         if self.layer is not None and self.programs:
             stop("--layer is for a plan: leave out the programs, or the layer")
+        if self.overcut is not None and not self.programs:
+            stop("--overcut is for programs: a plan keeps off the part")
         if len(self.tools) not in (0, 1, max(len(self.programs), 1)):
             stop("--tool stands once for all programs, or once for each")
 
@@ -188,6 +192,8 @@ def notes_on(setup, text):
                "put the board under the part into its file, with the drills' points, or judge the milling alone")
     if setup.asked.band is not None and setup.asked.band > min(map(setup.radius_of, setup.tools)):
         yield "band: it is over the smallest cutter's radius, which is the most that a job takes"
+    if setup.asked.overcut is not None and setup.asked.overcut - setup.overcut >= setup.least:
+        yield f"overcut: a job takes at most {short(DEEPEST[setup.unit])} mm, and less than the smallest cutter's radius"
     if any(setup.high[it] > setup.stock[1][it] or setup.low[it] < setup.stock[0][it] for it in (0, 1)) or setup.high[2] > setup.stock[1][2]:
         yield "the part stands out of the stock that --stock says"
     yield from fit.by_box(setup.low, setup.high, setup.programs)
@@ -208,7 +214,7 @@ def main(words=None):
     reader = command.Words(__doc__)
     reader.add_argument("part")
     reader.add_argument("programs", nargs="*")
-    for name in ("tools", "stock", "allowance", "band", "layer"):
+    for name in ("tools", "stock", "allowance", "band", "overcut", "layer"):
         reader.add_argument(f"--{name}")
     reader.add_argument("--tool", action="append")
     reader.add_argument("-o", default=".")

@@ -31,7 +31,7 @@ ANSWERS = {True: ("accepted", "Accepted"), False: ("rejected", "Rejected")}
 # How far a line fails, by the way in which it does.
 HOW = {
     "side": "about {} mm sideways", "deep": "{} mm too deep", "stock": "{} mm of stock", "floor": "{} mm under the floor",
-    "touch": "passes with a radius {} mm less"}
+    "touch": "a touch of {} mm"}
 # The most lines that are listed on a page, and the most columns that are marked of a finding.
 LINES, MARKED = 1_500, 3_000
 

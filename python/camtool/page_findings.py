@@ -13,7 +13,8 @@ from camtool.page_solid import Cylinder, Hit, Shape, hit_on, steepness_of
 MEASURED, LISTED = 4_000, 200
 # At how many places of a move it is looked at how deep it comes into stock.
 PLACES = 64
-# How far two units' widening, and the rounding of a path, may let a touch look like a cut: in units, by their decimals.
+# How far two units' widening, and the rounding of a path, may let a touch look like a cut, beside the overcut: in units, by
+# their decimals.
 TOUCH = {2: 8, 3: 24}
 # How many pieces of stock that are left too high are told.
 PIECES = 12
@@ -24,8 +25,10 @@ ADVICE = {
     "Where the tool does cut there before, a smaller `sample` may help.",
     "cut": "Cut in steps, or take a first pass higher up. A smaller `sample` may help where an earlier pass does cut there.",
     "holder-stock": "The tool stands out {stickout} mm. Cut the stock beside it first, or let the tool stand out further and write the new `stickout`.",
-    "touch": "The path slides along the part; camtool tests with a cutter up to 2 units wider. Write `{key} = {passes}` in the job: "
-    "the tool may then come {less} into the part, and no more. Or keep the path {more} off it.",
+    "touch": "The path slides along the part; camtool tests with a cutter up to 2 units wider. Write `overcut = {passes}` in the job: "
+    "the tool may then come {deep} into the part, and no more. Or keep the path {off} off it.",
+    "brush": "The holder goes along the part; camtool tests with one up to 2 units wider. Let the tool stand out further, or keep "
+    "the path {off} off the part.",
     "deep": "Raised by that much, at both ends, {who} the part. Are the part's zero and the program's the same?",
     "near": "Keep the path three or four units off the part, or write an `overcut` of 5 units: the tool may then come so far into it.",
     "Holder": "Let the tool stand out further, or take a narrower holder.",
@@ -48,7 +51,7 @@ Finding = collections.namedtuple("Finding", "kind title told advice moves column
 def findings_of(seen):
     """Returns what fails, in the order of the program, and then what is left too high."""
     measured = measure_all(seen)
-    least = [it.item for it in measured if it.item.test in ("gouge", "holder") and it.amount <= TOUCH[seen.grid.places]]
+    least = [it.item for it in measured if may_touch(seen, it)]
     page_read.look_at_touches(seen, {(it.step, it.move) for it in least})
     groups = grouped([with_touch(seen, it) for it in measured])
     return [finding_of(seen, it) for it in groups] + left_over(seen)
@@ -113,10 +116,16 @@ def measured_part(seen, job, item, move):
     return Measured(item, "deep", up, hit) if up <= hit.side else Measured(item, "side", hit.side, hit)
 
 
+def may_touch(seen, measured):
+    """Returns whether a failing move may only touch: it meets the part little, and isn't too deep over a level face."""
+    is_little = measured.item.test in ("gouge", "holder") and measured.amount <= TOUCH[seen.grid.places] + seen.job.get("overcut", 0)
+    return is_little and not (measured.way == "deep" and is_level(measured.hit))
+
+
 def with_touch(seen, measured):
-    """Returns a failing move as a touch, where it is one: how much is then by how much less the radius passes."""
-    less = seen.touches.get((measured.item.step, measured.item.move))
-    return measured._replace(way="touch", amount=less) if less else measured
+    """Returns a failing move as a touch, where it is one: how much is then by how much more overcut it passes."""
+    more = seen.touches.get((measured.item.step, measured.item.move))
+    return measured._replace(way="touch", amount=more) if more else measured
 
 
 # ---- one cause
@@ -164,10 +173,15 @@ def short(seen, units):
     return f"{units / 10**seen.grid.places:.2f}".rstrip("0").rstrip(".")
 
 
+def is_level(hit):
+    """Returns whether what the tool meets is a level face."""
+    return hit.steepness < 0.2
+
+
 def surface_of(seen, measured):
     """Returns what the tool meets: a level face and its height, a wall or a slope."""
     steep, place = measured.hit.steepness, measured.hit.place
-    if measured.way == "deep" and steep < 0.2:
+    if measured.way == "deep" and is_level(measured.hit):
         return f"the level face at Z{seen.grid.millimetres(round(place[2]))}"
     return "a wall" if steep > 0.98 else "a slope" if steep >= 0.2 else f"an edge at Z{seen.grid.millimetres(round(place[2]))}"
 
@@ -191,7 +205,7 @@ def words_of(seen, group, worst):
     mm = lambda it: f"{seen.grid.millimetres(round(it))} mm"
     job, test = seen.steps[worst.item.step].job, worst.item.test
     if worst.way == "touch":
-        return words_of_touch(seen, job, worst, mm)
+        return words_of_touch(job, worst, mm)
     if test in ("gouge", "holder"):
         return words_of_part(seen, group, worst, mm)
     z = seen.grid.millimetres
@@ -206,12 +220,13 @@ def words_of(seen, group, worst):
     return title, ADVICE[test].format(z=z(worst.hit.tip[2]), floor=z(job["floor"]), stickout=z(job.get("stickout", 0)))
 
 
-def words_of_touch(seen, job, worst, mm):
+def words_of_touch(job, worst, mm):
     """Returns the title and the advice of moves that only touch."""
-    key = "holder_radius" if worst.item.test == "holder" else "radius"
-    passes = job[key] - worst.amount
-    advice = ADVICE["touch"].format(key=key, passes=passes, less=mm(worst.amount), more=mm(worst.amount + 1))
-    return f"Only a touch: passes with {seen.grid.millimetres(passes)}", advice
+    off = mm(worst.amount + 1)
+    if worst.item.test == "holder":
+        return f"Only a touch of the holder: passes with one {mm(worst.amount)} less in radius", ADVICE["brush"].format(off=off)
+    passes = job.get("overcut", 0) + worst.amount
+    return f"Only a touch: passes with an overcut of {mm(passes)}", ADVICE["touch"].format(passes=passes, deep=mm(passes), off=off)
 
 
 def words_of_part(seen, group, worst, mm):

@@ -147,6 +147,29 @@ def kinds_of(tops, heights, columns, job, judged, left):
     return kinds
 
 
+def spare(kinds, tops, heights, columns, overcut, height_at):
+    """Changes what columns are shown as, from cut into to wanted, where the job's overcut allows that: so near to such a
+    column the part is no higher than it stands. `height_at` returns the part's height over a place, or None."""
+    # (a wall lies nearer than along the nearest of eight ways)
+    far = (overcut + 2) * 1.09
+    ways = [(far * math.cos(it * math.pi / 4), far * math.sin(it * math.pi / 4)) for it in range(8)]
+    for at in [it for it, kind in enumerate(kinds) if kind == CUT]:
+        most, near = tops[at] + max(overcut, 3), neighbours(at, columns)
+        x, y = columns.x0 + at % columns.along * columns.pitch, columns.y0 + at // columns.along * columns.pitch
+        # (far from an edge of the part all neighbours are higher, and of those there may be many)
+        is_edge = len(near) < 8 or min(heights[it] for it in near) <= most
+        asides = (height_at(x + dx, y + dy) for dx, dy in ways) if is_edge else ()
+        if heights[at] <= most or any(it is None or it <= most for it in asides):
+            kinds[at] = WANTED
+
+
+def neighbours(at, columns):
+    """Returns the numbers of the columns round one, at most eight."""
+    row, column = divmod(at, columns.along)
+    ways = [(up, on) for up in (-1, 0, 1) for on in (-1, 0, 1) if up or on]
+    return [(row + up) * columns.along + column + on for up, on in ways if 0 <= column + on < columns.along and 0 <= row + up < columns.rows]
+
+
 def pieces_of(columns, chosen):
     """Returns the chosen columns in pieces whose columns are neighbours, the largest piece first: lists of numbers."""
     rest, pieces = set(chosen), []
@@ -155,8 +178,7 @@ def pieces_of(columns, chosen):
         while ends:
             at = ends.pop()
             piece.append(at)
-            row, column = divmod(at, columns.along)
-            for other in ((row + up) * columns.along + column + on for up in (-1, 0, 1) for on in (-1, 0, 1) if 0 <= column + on < columns.along):
+            for other in neighbours(at, columns):
                 if other in rest:
                     rest.remove(other)
                     ends.append(other)

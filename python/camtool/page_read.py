@@ -25,9 +25,9 @@ Item = collections.namedtuple("Item", "step test move line words segment triangl
 Step = collections.namedtuple("Step", "name job text moves")
 # The tests that don't look at the stock, so that what came before doesn't matter.
 OF_PART = ("floor", "gouge", "holder")
-# By how many units a radius is lessened to see whether a move only touches, by the unit's decimals: up to 0.05 mm, or
-# 0.02 mm; and how long one more judging may take, in seconds.
-LESS, PATIENCE = {2: (1, 2, 3, 4, 5), 3: (1, 2, 3, 4, 5, 10, 15, 20)}, 60
+# By how many units an overcut is raised, and a holder narrowed, to see whether a move only touches, by the unit's decimals:
+# up to 0.05 mm, or 0.02 mm; the greatest overcut of a job; and how long one more judging may take, in seconds.
+MORE, DEEPEST, PATIENCE = {2: (1, 2, 3, 4, 5), 3: (1, 2, 3, 4, 5, 10, 15, 20)}, 500, 60
 CUTTER = ("cutter", "radius", "rise", "run")
 
 
@@ -140,6 +140,8 @@ def look_at_stock(seen):
         seen.tops = page_map.lower_of(seen.tops, other)
     left = numbers_left(seen, columns) if step == 1 else None
     seen.kinds = page_map.kinds_of(seen.tops, seen.heights, columns, seen.job, not seen.is_accepted, left)
+    if seen.job.get("overcut"):
+        page_map.spare(seen.kinds, seen.tops, seen.heights, columns, seen.job["overcut"], seen.near.height)
 
 
 def stock_of(step, columns):
@@ -195,20 +197,19 @@ def look_at_moves(seen):
         seen.items = sorted([*seen.items, named], key=lambda it: (it.step, it.move))
 
 
-def items_of_step(seen, number, less=0):
+def items_of_step(seen, number):
     """Returns the moves of a list's program that fail, judged by itself with its cutter: for the first of them all, for
     the others those that meet the part."""
-    items = judged_again(seen, number, less)
+    items = judged_again(seen, number, 0)
     return [it for it in items if number == 0 or it.test in OF_PART]
 
 
-def judged_again(seen, number, less):
-    """Returns the moves of a program that fail with radii that are less by so many units."""
+def judged_again(seen, number, more):
+    """Returns the moves of a program that fail with an overcut that is so many units more, and a holder narrower by as much."""
     step = seen.steps[number]
-    job = {**step.job, "radius": step.job["radius"] - less}
-    job["band"] = min(job["band"], job["radius"])
+    job = {**step.job, "overcut": step.job.get("overcut", 0) + more}
     if "holder_radius" in job:
-        job["holder_radius"] = max(job["holder_radius"] - less, job["radius"] + 1)
+        job["holder_radius"] = max(job["holder_radius"] - more, job["radius"] + 1)
     with tempfile.TemporaryDirectory(prefix="camtool-page-") as folder:
         names = [store(folder, "job.toml", texts.job_text(job)), store(folder, "part.stl", seen.texts[1]), store(folder, "program.ngc", step.text)]
         report, seconds = report_of(names)
@@ -242,8 +243,8 @@ def item_of_line(seen):
 
 
 def look_at_touches(seen, likely):
-    """Finds of the moves that may only touch, pairs of a program's and a move's numbers, those that pass with a radius
-    that is a little less: by how many units at least, of those that are tried."""
+    """Finds of the moves that may only touch, pairs of a program's and a move's numbers, those that pass with an overcut
+    that is a little more: by how many units at least, of those that are tried."""
     if not likely or not programs.is_built("camreport"):
         return
     for step in sorted({step for step, _ in likely}):
@@ -255,20 +256,22 @@ def look_at_touches(seen, likely):
 
 def look_at_step(seen, step, likely):
     """Finds the touches of one program among its moves with these numbers."""
-    *tried, most = [it for it in LESS[seen.grid.places] if it < seen.steps[step].job["radius"]] or [0]
+    job = seen.steps[step].job
+    room = min(job["radius"] - 1, DEEPEST) - job.get("overcut", 0)
+    *tried, most = [it for it in MORE[seen.grid.places] if it <= room] or [0]
     still = likely - failing_with(seen, step, most)
-    for less in tried:
+    for more in tried:
         if not still:
             return
-        failing = failing_with(seen, step, less)
-        seen.touches.update({(step, move): less for move in still - failing})
+        failing = failing_with(seen, step, more)
+        seen.touches.update({(step, move): more for move in still - failing})
         still &= failing
     seen.touches.update({(step, move): most for move in still})
 
 
-def failing_with(seen, step, less):
-    """Returns the numbers of a program's moves that meet the part with radii that are so much less."""
-    return {it.move for it in judged_again(seen, step, less) if it.test in OF_PART}
+def failing_with(seen, step, more):
+    """Returns the numbers of a program's moves that meet the part with an overcut that is so much more."""
+    return {it.move for it in judged_again(seen, step, more) if it.test in OF_PART}
 
 
 def sums_of(seen):

@@ -222,9 +222,10 @@ def tell_accepted(files, verdict):
     if left:
         said += tell_left(grid, job, grid.units(left[1]))
     slack, overcut = job.get("slack", 0), job.get("overcut", 0)
-    if slack or overcut:
-        mm = grid.millimetres
-        said.append(f"the tip may be {mm(slack)} mm off its place, and the part may be cut by {mm(overcut)} mm; what of it is thinner may be gone")
+    if slack:
+        said.append(f"the tip may be {grid.millimetres(slack)} mm off its place")
+    if overcut:
+        said.append(f"the part may be cut by {grid.millimetres(overcut)} mm; what of it is thinner may be gone")
     return said
 
 

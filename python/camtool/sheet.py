@@ -75,7 +75,8 @@ class Sheet:
         """Returns the point on the tool: which, how wide, how far out."""
         job, facts = self.job, self.facts
         tools = [it for it in facts.words if it.startswith("T")]
-        told = f"{', '.join(tools) or 'No T word'}: {told_of_tool(job, self.grid.millimetres)}, as judged. Measured: ________ mm. A wider tool may come into the part by half of what it is wider."
+        farther = "comes farther" if job.get("overcut") else "may come"
+        told = f"{', '.join(tools) or 'No T word'}: {told_of_tool(job, self.grid.millimetres)}, as judged. Measured: ________ mm. A wider tool {farther} into the part by half of what it is wider."
         several = f"! The program names {', '.join(tools)}: which of them is it?" if len(tools) > 1 else None
         comments = f"The program's comments: {'; '.join(facts.comments)}." if facts.comments else None
         if "stickout" in job:

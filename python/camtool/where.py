@@ -14,8 +14,8 @@ of steps, a .toml, `./camtool rest`, which does so too. It can also take what wa
 of camreport's from the file REPORT, or with a word `-` a report, or the line that camtool printed, from
 standard input. With no FILE that line is one of `plan`.
 
-Where it runs camtool by itself it asks again with one thing changed, and says what passes then: a slightly
-smaller radius, half of it, the radii of two steps swapped, the part with another unit, zero or side.
+Where it runs camtool by itself it asks again with one thing changed, and says what passes then: an overcut of
+a few units more, half the radius, the radii of two steps swapped, the part with another unit, zero or side.
 
 With --all it tells all that camtool refuses of a program, or of the programs of a list, and not the first
 fault alone. It strikes that in a copy, in a folder for the while, and asks camtool again, up to 200 times; the

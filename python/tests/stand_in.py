@@ -40,7 +40,7 @@ def tops_after(job, moves, columns, tops):
 
 def item_of(grid, job, near, text, number, move):
     """Returns the item of a report on a move; None where it passes."""
-    wider = Shape({**job, "radius": job["radius"] + 2})
+    wider = Shape({**job, "radius": job["radius"] + 2 - job.get("overcut", 0)})
     low = min(move.start[2], move.end[2])
     hit = hit_on(wider, move.start, move.end, near)
     if low >= job["floor"] and hit is None:

@@ -62,7 +62,7 @@ class Told(test_cutters.InAFolder):
 
     def test_the_programs_rows(self):
         rows, notes = self.told(text_of("freecad", "pocket.ngc").decode())
-        self.assertEqual(notes, [])
+        self.assertEqual(notes, ["note: overcut: what is thinner than 0.02 mm of the part may be cut away whole"])
         self.assertEqual(rows["program"], "23 lines that move, from X11.00 Y11.00 Z4.00 to X29.00 Y19.00 Z13.00; 2 decimals")
         self.assertEqual(rows["feeds"], "18, down to Z4.00, F200 to F600")
         self.assertEqual((rows["tool"], rows["spindle"]), ("T1", "M3 in line 12, S6000; the first feed is in line 20"))
@@ -82,6 +82,7 @@ class Told(test_cutters.InAFolder):
             ("pitch of 5 mm", pocket, "pitch = 500", None, "the cutter fits between four columns"),
             ("another tool", pocket, "radius = 250; allowance = 10000", None, '"T1 6 mm endmill", 6 mm across, and the job\'s radius is 2.50 mm, 5.00 mm across'),
             ("the diameter", pocket, "radius = 600", None, "radius is 6.00 mm, 12.00 mm across; is that the diameter?"),
+            ("a little less", pocket, "radius = 298; overcut = 0", None, "the job's radius is 0.02 mm less than half of that: is it as measured?"),
             ("only air", higher, "allowance = 10000", None, "it cuts nothing"),
             ("the part too low", pocket, "allowance = 10000", low, "part: it lies under floor"),
         ):
@@ -129,7 +130,7 @@ class Told(test_cutters.InAFolder):
         self.assertEqual(status, None)
         self.assertIn("step      corners.ngc, flat, 3.00 mm across", printed)
         self.assertNotIn("note: corners.ngc", printed)
-        sizes = (("pocket.ngc", 6, 150), ("corners.ngc", 3, 298))
+        sizes = (("pocket.ngc", 6, 150), ("corners.ngc", 3, 300))
         files = {name: self.stored(name, f"({size} mm endmill)\n" + text_of("freecad", name).decode()) for name, size, _ in sizes}
         steps = "".join(f"[[steps]]\nprogram = '{files[name]}'\ncutter = 'flat'\nradius = {radius}\n" for name, _, radius in sizes)
         status, printed, _ = ended(job.main, ["no-band.toml", "part.stl", self.stored("list.toml", steps)])

@@ -89,15 +89,18 @@ class Jobs(test_cutters.InAFolder):
 
     def test_the_numbers(self):
         for name, programs_, words, wanted in (
-            ("hundredths", [TWO], [], dict(radius=295, floor=0, top=801, clear=1300, area=[0, 0, 4000, 3000], home=[800, 800], allowance=10, band=10, holder_radius=900, stickout=3000)),
-            ("thousandths", [THREE], [], dict(unit="thousandth", radius=2985, floor=0, top=8010, clear=13000, area=[0, 0, 40000, 30000], home=[8125, 8125], allowance=100, band=100, holder_radius=9000)),
+            ("hundredths", [TWO], [], dict(radius=300, overcut=5, floor=0, top=801, clear=1300, area=[0, 0, 4000, 3000], home=[800, 800], allowance=10, band=10, holder_radius=900, stickout=3000)),
+            ("thousandths", [THREE], [], dict(unit="thousandth", radius=3000, overcut=15, floor=0, top=8010, clear=13000, area=[0, 0, 40000, 30000], home=[8125, 8125], allowance=100, band=100, holder_radius=9000)),
             ("margin", [TWO], ["--stock=1"], dict(top=901, area=[-100, -100, 4100, 3100])),
             ("sides", [TWO], ["--stock=44,32,10"], dict(top=1001, area=[-200, -100, 4200, 3100])),
             ("corners", [TWO], ["--stock=-1,-2,0,41,32,9.5"], dict(top=951, area=[-100, -200, 4100, 3200])),
             ("asked", [TWO], ["--allowance=0.05", "--band=0.3"], dict(allowance=5, band=30)),
-            ("a drill", [HEAD.replace("T1", "T2") + "G0 Z13.00\nG0 X8.00 Y8.00\nG1 Z-1.60 F100\nG0 Z13.00\nM2\n"], [], dict(cutter="cone", radius=245, rise=3, run=5, floor=-160, allowance=10)),
-            ("a ball", [TWO], ["--tool=ball 3"], dict(cutter="ball", radius=145, band=49)),
-            ("a plan", [], ["--tool=1", "--layer=1"], dict(radius=300, area=[-300, -300, 4300, 3300], layer=100, rough_stock=30, max_cut=130, raster=50, lift=5, home=[0, 0], clear=1301)),
+            ("a drill", [HEAD.replace("T1", "T2") + "G0 Z13.00\nG0 X8.00 Y8.00\nG1 Z-1.60 F100\nG0 Z13.00\nM2\n"], [], dict(cutter="cone", radius=250, overcut=5, rise=3, run=5, floor=-160, allowance=10)),
+            ("a ball", [TWO], ["--tool=ball 3"], dict(cutter="ball", radius=150, overcut=5, band=50)),
+            ("half a unit", [TWO], ["--tool=flat 40.015"], dict(unit=None, radius=2001, overcut=5)),
+            ("its own overcut", [TWO], ["--overcut=0.029"], dict(radius=300, overcut=2)),
+            ("no overcut", [TWO], ["--overcut=0"], dict(radius=300, overcut=None)),
+            ("a plan", [], ["--tool=1", "--layer=1"], dict(radius=300, overcut=None, area=[-300, -300, 4300, 3300], layer=100, rough_stock=30, max_cut=130, raster=50, lift=5, home=[0, 0], clear=1301)),
         ):
             with self.subTest(name):
                 keys, _, _ = self.made(*words, programs_=programs_)
@@ -112,6 +115,11 @@ class Jobs(test_cutters.InAFolder):
         self.assertLessEqual(4 * keys["pitch"], keys["radius"])
         self.assertTrue(keys["floor"] <= keys["top"] <= keys["clear"] and keys["band"] <= keys["radius"])
         self.assertLess(keys["allowance"], keys["top"] - keys["floor"])
+
+    def test_the_overcut_is_under_the_radius(self):
+        for across, wanted in (("0.06", (3, 2)), ("0.02", (1, None)), ("0.01", (5, 4))):
+            keys, _, _ = self.made(f"--tool=flat {across}", programs_=[TWO])
+            self.assertEqual((keys["radius"], keys.get("overcut")), wanted)
 
     def test_large_parts_have_a_wider_pitch(self):
         part = self.stored("large.stl", block((0, 0, 0), (900, 800, 20)))
@@ -142,9 +150,9 @@ class Jobs(test_cutters.InAFolder):
         keys, _, printed = self.made(programs_=[THREE, two])
         with open(os.path.join(self.folder, "out", "list.toml"), "rb") as file:
             steps = texts.steps_of(file.read())
-        wanted = [("1.ngc", "flat", 2985, None), ("2.ngc", "cone", 2485, 3)]
+        wanted = [("1.ngc", "flat", 3000, None), ("2.ngc", "cone", 2500, 3)]
         self.assertEqual([(os.path.basename(it["program"]), it["cutter"], it["radius"], it.get("rise")) for it in steps], wanted)
-        self.assertEqual((keys["cutter"], keys["floor"], keys["allowance"]), ("flat", -1600, 100))
+        self.assertEqual((keys["cutter"], keys["floor"], keys["allowance"], keys["overcut"]), ("flat", -1600, 100, 15))
         self.assertIn("next: camtool rest ", printed)
 
     def test_the_bracket(self):
@@ -180,6 +188,8 @@ class Jobs(test_cutters.InAFolder):
         ):
             part = part and self.stored("other.stl", part)
             self.assertIn(wanted, self.made(programs_=[program], part=part)[2])
+        self.assertIn("note: overcut: a job takes at most 5 mm", self.made("--overcut=6", programs_=[TWO])[2])
+        self.assertNotIn("note: overcut", self.made("--overcut=0.0299", programs_=[TWO])[2])
 
     def test_it_asks_and_refuses(self):
         pocket, bare = self.stored("pocket.ngc", TWO), self.stored("bare.ngc", TWO.replace("M6 T1\n", ""))
@@ -190,6 +200,7 @@ class Jobs(test_cutters.InAFolder):
             ([self.part, pocket, "--tool=flat 6", "--stock=1,2"], "--stock takes"),
             ([self.part, pocket, "--tool=flat 6", "--allowance=0,1"], "millimetres with a point"),
             ([self.part, pocket, "--tool=flat 6", "--layer=1"], "leave out the programs"),
+            ([self.part, "--tool=flat 6", "--overcut=0.1"], "a plan keeps off the part"),
             ([pocket, self.part, "--tool=flat 6"], "it seems to be a program, and the part comes first"),
             ([self.part, self.stored("wide.ngc", "\ufeffnothing"), "--tool=flat 6"], "byte order mark"),
             ([self.part, self.stored("none.ngc", "nothing"), "--tool=flat 6"], "no line that moves was found"),

@@ -101,6 +101,20 @@ class Map(unittest.TestCase):
         accepted = page_map.kinds_of(tops, heights, columns, self.JOB, False, None)
         self.assertLessEqual(set(accepted), {page_map.WANTED, page_map.HIDDEN})
 
+    def test_what_an_overcut_allows_is_not_shown_as_cut_into(self):
+        columns = page_map.Columns(0, 0, 20, 7, 5)
+        # The part is 30 high from x 39 on: the columns at 40 stand in its wall by one unit.
+        height_at = lambda x, y: None if x < 0 else 30 if x >= 39 else 0
+        heights = array.array("i", [height_at(20 * (at % 7), 0) for at in range(35)])
+        for tops, overcut, wanted in (
+                ([0, 0, 0, 30, 30, 30, 30], 1, {page_map.WANTED}), ([0, 0, 0, 0, 30, 30, 30], 1, {page_map.WANTED, page_map.CUT}),
+                ([0, 0, 0, 22, 22, 22, 22], 8, {page_map.WANTED}), ([0, 0, 30, 21, 30, 30, 30], 8, {page_map.WANTED, page_map.CUT})):
+            tops = array.array("i", tops * 5)
+            kinds = page_map.kinds_of(tops, heights, columns, self.JOB, True, None)
+            self.assertIn(page_map.CUT, kinds)
+            page_map.spare(kinds, tops, heights, columns, overcut, height_at)
+            self.assertEqual(set(kinds), wanted, tops)
+
     def test_pieces_of_neighbours(self):
         columns = page_map.columns_of(self.JOB)
         self.assertEqual(page_map.pieces_of(columns, [0, 7, 14, 5, 12]), [[0, 7, 12, 14], [5]])
@@ -222,17 +236,32 @@ class Page(made.Folder):
         shown, _ = self.made_of(made.program().replace("Z2.00", "Z1.80"))
         self.assertIn("Cutter too deep by 0.20 mm, into the level face at Z2.00", " ".join(shown.said))
 
-    def test_a_touch_is_told_with_the_radius_that_passes(self):
-        shown, _ = self.made_of(made.program("5.01"))
-        told = " ".join(shown.said)
-        self.assertIn("Only a touch: passes with 0.97", told)
-        self.assertIn("radius = 97", told)
+    def test_what_is_a_little_too_deep_is_no_touch(self):
+        shown, _ = self.made_of(made.program().replace("Z2.00", "Z1.97"))
+        self.assertIn("Cutter too deep by 0.03 mm, into the level face at Z2.00", " ".join(shown.said))
+
+    def test_a_touch_is_told_with_the_overcut_that_passes(self):
+        for own, end, wanted, deep in ((0, "5.01", 3, "0.03"), (10, "5.12", 14, "0.14")):
+            self.store("job.toml", f"{made.JOB}overcut = {own}\n")
+            shown, _ = self.made_of(made.program(end))
+            told = " ".join(shown.said)
+            self.assertIn(f"Only a touch: passes with an overcut of {deep} mm", told)
+            self.assertIn(f"overcut = {wanted}", told)
+            self.assertIn("a touch of 0.0", told)
+        shown, line = self.made_of(made.program("5.07"))
+        self.assertTrue(line.startswith("accepted"))
 
     def test_in_thousandths_a_touch_may_be_a_little_more(self):
         job = re.sub(r"\b(\d+)0\b", r"\g<1>00", made.JOB)
         self.store("job.toml", f'unit = "thousandth"\n{job}')
         shown, _ = self.made_of(made.program("5.012"))
-        self.assertIn("Only a touch: passes with 0.985", " ".join(shown.said))
+        self.assertIn("Only a touch: passes with an overcut of 0.015 mm", " ".join(shown.said))
+
+    def test_a_touch_of_the_holder(self):
+        item = page_read.Item(0, "holder", 0, 1, "", None, 0, None, 5)
+        title, advice = page_findings.words_of_touch({"overcut": 5}, page_findings.Measured(item, "touch", 2, None), lambda it: f"{it} units")
+        self.assertEqual(title, "Only a touch of the holder: passes with one 2 units less in radius")
+        self.assertIn("Let the tool stand out further, or keep the path 3 units off", advice)
 
     def test_what_is_left_is_told_in_pieces(self):
         rows = made.ROWS.split("G0 Z6.00\n")

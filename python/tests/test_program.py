@@ -7,6 +7,7 @@ From the root: PYTHONPATH=python:python/tests python3 -m unittest test_program
 import array
 import concurrent.futures
 import glob
+import math
 import os
 import random
 import re
@@ -76,7 +77,9 @@ class Case(typing.NamedTuple):
     part_file: str
     job: dict
     triangles: array.array
+    # What the program keeps off the part: the job's cutter with its slack around it. Its tip is so far below the job's.
     tool: camtool.Tool
+    below: int = 0
 
     def texts(self):
         return read(self.job_file), read(self.part_file)
@@ -102,14 +105,21 @@ def places_of(job):
     return 3 if job.get("unit") == "thousandth" else 2
 
 
+def slant(rise, run):
+    """How far the tip of a cone goes down where its side goes outward by 1."""
+    return math.hypot(rise, run) / run
+
+
 def case_of(job_file, part_file):
     job = tomllib.loads(read(job_file).decode())
-    holder = (job["holder_radius"], job["stickout"]) if "stickout" in job else None
+    slack = job.get("slack", 0)
+    below = math.ceil(slack * slant(job["rise"], job["run"])) if job["cutter"] == "cone" else slack
+    holder = (job["holder_radius"] + slack, job["stickout"] - slack + below) if "stickout" in job else None
     cutter = {"flat": camtool.flat, "ball": camtool.ball, "cone": camtool.cone}[job["cutter"]]
     slope = (job["rise"], job["run"]) if job["cutter"] == "cone" else ()
     snap = {"exact": 0, "nearest": 1}[job.get("snap", "nearest")]
     part = camtool.read_part(read(part_file), unit=places_of(job), snap=snap)
-    return Case(job_file, part_file, job, part.triangles, cutter(job["radius"], *slope, holder=holder))
+    return Case(job_file, part_file, job, part.triangles, cutter(job["radius"] + slack, *slope, holder=holder), below)
 
 
 def examples():
@@ -159,9 +169,9 @@ class Compared(unittest.TestCase):
             count = PLACES - compared if case is self.sample else each
             places = [self.place(case) for _ in range(count)]
             flat = array.array("i", [coordinate for place in places for coordinate in place])
-            heights = camtool.drop_heights(case.triangles, case.tool, flat, case.job["floor"])
+            heights = camtool.drop_heights(case.triangles, case.tool, flat, case.job["floor"] - case.below)
             wanted = at_once(case.dropped, places)
-            self.assertEqual([case.length(height) for height in heights], wanted, case.job_file)
+            self.assertEqual([case.length(height + case.below) for height in heights], wanted, case.job_file)
             compared += count
         self.assertEqual(compared, PLACES)
 
@@ -173,7 +183,7 @@ class Compared(unittest.TestCase):
             xs, ys = zip(self.place(case), self.place(case))
             (first, last), at = (sorted(xs), ys[0]) if axis == 1 else (sorted(ys), xs[0])
             z = self.chosen.randint(case.job["floor"], case.job["top"])
-            found = camtool.runs(case.triangles, case.tool, array.array("i", [axis, at, z, first, last])).runs
+            found = camtool.runs(case.triangles, case.tool, array.array("i", [axis, at, z - case.below, first, last])).runs
             pairs = list(zip(found[::2], found[1::2]))
             asked = {p for run in pairs for end in run for p in (end - 1, end, end + 1)} | {first, last, (first + last) // 2}
             asked = sorted(p for p in asked if first <= p <= last)
@@ -260,6 +270,8 @@ def verdict_line(job_file, part_file, program_file):
     if verdict.accepted:
         words = ["accepted", "moves", verdict.moves, "columns", verdict.columns, "left", length(verdict.most_left)]
         words += ["band", length(job["band"]), "allowance", length(job["allowance"])]
+        margins = [job.get(key, 0) for key in ("overcut", "slack")]
+        words += ["overcut", length(margins[0]), "slack", length(margins[1])] if any(margins) else []
         return [str(word) for word in words]
     words = ["rejected", verdict.test]
     for name in ("move", "triangle", "row", "column"):

@@ -70,7 +70,7 @@ class Shown(unittest.TestCase):
         with open(os.path.join(PLATE, "job.toml"), "rb") as file:
             job = file.read() + b"slack = 3\novercut = 8\n"
         _, said = self.shown("accepted moves 2 columns 9 left 0.03 band 0.00 allowance 0.03 overcut 0.08 slack 0.03", self.names(job=job))
-        self.assertIn("the tip may be 0.03 mm off its place, and the part may be cut by 0.08 mm", "\n".join(said))
+        self.assertIn("the tip may be 0.03 mm off its place\nthe part may be cut by 0.08 mm", "\n".join(said))
 
     def test_an_acceptance_of_a_list(self):
         steps = f"[[steps]]\nprogram = '{PLATE}/program.ngc'\nradius = 150\ncutter = 'flat'\n".encode()
