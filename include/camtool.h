@@ -243,7 +243,8 @@ int32_t camtool_waterline(const camtool_triangle *triangles, size_t triangles_co
                           camtool_chain *chains, size_t chains_count, camtool_point *points,
                           size_t points_count, camtool_counts *told);
 
-/* Which test of a program fails first: of a move, or after the last one. */
+/* Which test of a program fails first: of a move, or after the last one. Those of a move come in the
+ * order floor, gouge, holder, fixture, holder fixture, rapid, cut, holder stock. */
 enum camtool_test {
     /* None: the program is accepted. */
     CAMTOOL_ACCEPTED = 0,
@@ -260,11 +261,15 @@ enum camtool_test {
     /* On the move the holder passes what is left of the stock. */
     CAMTOOL_TEST_HOLDER_STOCK = 6,
     /* After the last move each column stands at most the allowance over what covers it. */
-    CAMTOOL_TEST_LEFT = 7
+    CAMTOOL_TEST_LEFT = 7,
+    /* On the move the cutter passes each fixture, a box of the job's keep_out. */
+    CAMTOOL_TEST_FIXTURE = 8,
+    /* On the move the holder passes each fixture. */
+    CAMTOOL_TEST_HOLDER_FIXTURE = 9
 };
 
 /* What is said of a program, or what is told of a text that is refused. What isn't told is 0. Moves,
- * triangles, rows and columns are counted from 0, and lengths are in the job's unit. */
+ * triangles, fixtures, rows and columns are counted from 0, and lengths are in the job's unit. */
 typedef struct camtool_verdict {
     /* One of camtool_test. */
     int32_t test;
@@ -293,14 +298,17 @@ typedef struct camtool_verdict {
     /* The line of a refused text's first fault, counted from 1; each LF ends one. It is told of a
      * part's text and of a program's. */
     uint64_t line;
+    /* The fixture that the move doesn't pass: the number of its box in the job's keep_out. */
+    uint32_t fixture;
 } camtool_verdict;
 
 /* The verdict on a program for a job and a part, each by its text: a TOML document, an ASCII STL and
  * a G-code (docs/FORMATS.md). It is the one that the command verify prints: the first test that
  * fails, or that the program is accepted; what it says is exact. With status CAMTOOL_OK told has the
  * verdict, which may be a rejection. The first text that is refused gives the status: the job's,
- * the part's, which is read in the job's unit and by its snap, and then the program's, which starts
- * at the job's home. told is written with every status. */
+ * the part's, which is read in the job's unit and by its snap, and then the program's, which is read
+ * from the job's home, in its unit, and by its start and spindle. told is written with every
+ * status. */
 int32_t camtool_verify(const uint8_t *job, size_t job_count, const uint8_t *part,
                        size_t part_count, const uint8_t *program, size_t program_count,
                        camtool_verdict *told);
@@ -334,11 +342,13 @@ typedef struct camtool_planned {
 
 /* The text of the program that the planner writes for a job and a part, each by its text, as in
  * camtool_verify: the one that the command plan stores. camtool_verify accepts it with the same job
- * and part, with the numbers of moves and columns and the most left that are told. program is as long
- * as the text has bytes: with another length, as 0, the status is CAMTOOL_ROOM. Each call plans anew,
- * so a caller that doesn't know the length plans twice. told is written with every status: with
- * CAMTOOL_OK and CAMTOOL_ROOM it has the program's numbers, with a refused part's the line or the
- * height, and with CAMTOOL_TOO_MANY_NODES, CAMTOOL_UNCUT and CAMTOOL_HELD what they speak of. */
+ * and part, with the numbers of moves and columns and the most left that are told. A job that asks for
+ * a spindle has no plan, since a plan names no feed: the status is CAMTOOL_JOB_MISSING, before the
+ * part's text is looked at. program is as long as the text has bytes: with another length, as 0, the
+ * status is CAMTOOL_ROOM. Each call plans anew, so a caller that doesn't know the length plans twice.
+ * told is written with every status: with CAMTOOL_OK and CAMTOOL_ROOM it has the program's numbers,
+ * with a refused part's the line or the height, and with CAMTOOL_TOO_MANY_NODES, CAMTOOL_UNCUT and
+ * CAMTOOL_HELD what they speak of. */
 int32_t camtool_plan(const uint8_t *job, size_t job_count, const uint8_t *part, size_t part_count,
                      uint8_t *program, size_t program_count, camtool_planned *told);
 

@@ -298,6 +298,33 @@ static void test_verdicts(void) {
     expect("its line", 0, (int32_t)told.line);
 }
 
+/* A box beside the cutter in the middle of the plate touches it, and one a unit nearer is hit; a holder
+ * is wider. */
+static void test_fixtures(void) {
+    const char *down = "G21 G90\nG1 Z2\nG0 Z4\nM2\n";
+    camtool_verdict told;
+    expect("a box beside", CAMTOOL_OK,
+           verified(JOB_OVER("[0, 0, 200, 200]", "keep_out = [[250, 0, 400, 200, 400]]\n"), FACETS,
+                    down, &told));
+    expect("a box beside", CAMTOOL_TEST_LEFT, told.test);
+    expect("no box", 0, (int32_t)told.fixture);
+    expect("a box in the way", CAMTOOL_OK,
+           verified(JOB_OVER("[0, 0, 200, 200]",
+                             "keep_out = [[250, 0, 400, 200, 400], [249, 0, 400, 200, 400]]\n"),
+                    FACETS, down, &told));
+    expect("a box in the way", CAMTOOL_TEST_FIXTURE, told.test);
+    expect("its move", 0, (int32_t)told.at);
+    expect("its box", 1, (int32_t)told.fixture);
+    expect("its triangle", 0, (int32_t)told.triangle);
+    expect("a box under the holder", CAMTOOL_OK,
+           verified(JOB_OVER("[0, 0, 200, 200]",
+                             "keep_out = [[250, 0, 400, 200, 400]]\nholder_radius = 200\n"
+                             "stickout = 150\n"),
+                    FACETS, down, &told));
+    expect("a box under the holder", CAMTOOL_TEST_HOLDER_FIXTURE, told.test);
+    expect("its box", 0, (int32_t)told.fixture);
+}
+
 static void refused_text(const char *what, int32_t status, const char *job, const char *part,
                          const char *program, uint64_t line, int32_t height) {
     camtool_verdict told;
@@ -384,6 +411,8 @@ static void test_plan_refusals(void) {
     refused_plan("no job", CAMTOOL_JOB_MISSING, "", FACETS, nothing);
     refused_plan("a job that is none", CAMTOOL_JOB_SYNTAX, "cutter", FACETS, nothing);
     refused_plan("no part", CAMTOOL_CUT_SHORT, JOB, "", (camtool_planned){.line = 1});
+    refused_plan("a spindle without a feed", CAMTOOL_JOB_MISSING,
+                 JOB_OVER("[0, 0, 200, 200]", "spindle = true\n"), "", nothing);
     refused_plan("a high part", CAMTOOL_PART_TOP, JOB, "solid s\n" HIGH_FACET "endsolid s\n",
                  (camtool_planned){.height = 301});
     refused_plan("a fine raster", CAMTOOL_TOO_MANY_NODES,
@@ -405,6 +434,7 @@ int main(void) {
     test_lattices();
     test_waterlines();
     test_verdicts();
+    test_fixtures();
     test_verdict_refusals();
     test_plans();
     test_plan_refusals();

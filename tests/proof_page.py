@@ -142,7 +142,7 @@ def made(page):
     out += data_lines(page, safe)
     for module in in_reading_order(page, safe):
         out += module_lines(page, module, safe)
-    out += ["", "## Without slack, overcut and graze", "", f"Beside these stand {page.count(plain)}: the same six statements of the program's own path, and the law by which `CutsSafely` gives them."]
+    out += ["", "## Without slack, overcut and graze", "", f"Beside these stand {page.count(plain)}: the same seven statements of the program's own path, and the law by which `CutsSafely` gives them."]
     for module in in_reading_order(page, plain):
         out += module_lines(page, module, plain)
     out += ["", "## What `AcceptsSafely` adds", "", f"{page.count(accepted - safe)}: what it means that the three texts read as a job, a part and moves."]

@@ -312,16 +312,20 @@ class Chain(typing.NamedTuple):
 class _Verdict(ctypes.Structure):
     _fields_ = [(name, ctypes.c_int32) for name in ("test", "most_left", "top", "height")] + [
         (name, ctypes.c_uint32) for name in ("triangle", "row", "column", "depth")] + [
-        (name, ctypes.c_uint64) for name in ("leaf", "at", "moves", "columns", "line")]
+        (name, ctypes.c_uint64) for name in ("leaf", "at", "moves", "columns", "line")] + [("fixture", ctypes.c_uint32)]
+
+
+# The names of the tests that enum camtool_test numbers, from 1.
+_TESTS = dict(enumerate(("floor", "gouge", "holder", "rapid", "cut", "holder-stock", "left", "fixture", "holder-fixture"), 1))
 
 
 class Verdict(typing.NamedTuple):
-    """What is said of a program. What isn't told is None. Moves, triangles, rows and columns are counted from 0, and
-    lengths are in the job's unit.
+    """What is said of a program. What isn't told is None. Moves, triangles, rows, columns and boxes are counted from 0,
+    and lengths are in the job's unit.
 
     accepted   whether every test passes
-    test       the first test that fails: "floor", "gouge", "holder", "rapid", "cut" or "holder-stock" of a move, or
-               "left" after the last one
+    test       the first test that fails: "floor", "gouge", "holder", "fixture", "holder-fixture", "rapid", "cut" or
+               "holder-stock" of a move, in this order, or "left" after the last one
     move       the move that fails
     triangle   the triangle that it doesn't pass
     row        the row of the column of stock that it doesn't pass, or that is left too high
@@ -331,6 +335,7 @@ class Verdict(typing.NamedTuple):
     most_left  how much is left at most on a column of an accepted program, over what covers it
     moves      how many moves an accepted program has
     columns    how many columns the stock has, where the program is accepted
+    box        the box of the job's keep_out that the move doesn't pass
     """
 
     accepted: bool
@@ -344,6 +349,7 @@ class Verdict(typing.NamedTuple):
     most_left: typing.Optional[int] = None
     moves: typing.Optional[int] = None
     columns: typing.Optional[int] = None
+    box: typing.Optional[int] = None
 
 
 class Runs(typing.NamedTuple):
@@ -538,7 +544,7 @@ def verify(job, part, program):
 
     job      bytes, or another array of bytes: a TOML document
     part     the same: an ASCII STL, which is read in the job's unit and by its snap
-    program  the same: a G-code, which starts at the job's home
+    program  the same: a G-code, read from the job's home and by its start and spindle
 
     It returns a Verdict. Where a text is refused, an exception says why: that of the first one, in this order.
     """
@@ -547,7 +553,7 @@ def verify(job, part, program):
     _tell(_library.camtool_verify(*texts, told), told.line or None, height=told.height)
     if told.test == 0:
         return Verdict(True, most_left=told.most_left, moves=told.moves, columns=told.columns)
-    test = ("floor", "gouge", "holder", "rapid", "cut", "holder-stock", "left")[told.test - 1]
+    test = _TESTS[told.test]
     if test == "left":
         return Verdict(False, test, row=told.row, column=told.column, top=told.top)
     if test == "floor":
@@ -555,6 +561,8 @@ def verify(job, part, program):
     leaf = told.depth, told.leaf
     if test in ("gouge", "holder"):
         return Verdict(False, test, told.at, triangle=told.triangle, leaf=leaf)
+    if test in ("fixture", "holder-fixture"):
+        return Verdict(False, test, told.at, box=told.fixture, leaf=leaf)
     return Verdict(False, test, told.at, row=told.row, column=told.column, leaf=leaf)
 
 
@@ -565,7 +573,8 @@ def plan(job, part):
     job   bytes, or another array of bytes: a TOML document
     part  the same: an ASCII STL, which is read in the job's unit and by its snap
 
-    It returns bytes. Where a text is refused or there is no plan, an exception says why.
+    It returns bytes. Where a text is refused or there is no plan, an exception says why. A job that asks for a spindle
+    has none, since a plan names no feed: JobMissing.
     """
     told = _Planned()
     texts = [given for name, text in (("job", job), ("part", part)) for given in _letters(name, text)]

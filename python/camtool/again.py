@@ -169,7 +169,7 @@ def tell_again(names, verdict):
             # (no overcut counts for a holder)
             if not said and test == "gouge":
                 said = tell_touch(judging, verdict)
-            if not said and test in ("gouge", "holder"):
+            if not said and test in ("gouge", "holder", "fixture"):
                 said = tell_diameter(judging)
             if not said and test in ("left", "rapid") and step is None and not judging.is_list:
                 said = tell_tenfold(judging)

@@ -53,6 +53,8 @@ class Job:
         self.levels, self.path_tol = keys.get("levels", []), keys.get("path_tol")
         self.slack, self.overcut = keys.get("slack", 0), keys.get("overcut", 0)
         self.graze = keys.get("graze", 2 * self.slack + 5 if self.slack else 0)
+        self.keep_out = keys.get("keep_out", [])
+        self.start, self.spindle = keys.get("start", "home"), keys.get("spindle", False)
         self.sides = self.area[2] - self.area[0], self.area[3] - self.area[1]
 
     def mm(self, units):
@@ -73,13 +75,21 @@ def cutter_of(job):
     return f"{across}, {angle:.1f} degrees between its sides"
 
 
+def start_of(job):
+    """Returns how it is told from where a program starts."""
+    if job.start == "home":
+        return job.grid.point((*job.home, job.clear))
+    place = "anywhere" if job.start == "anywhere" else "where the tool is changed"
+    return f"from {place}, up or down to Z{job.grid.millimetres(job.clear)} or over it, and then across"
+
+
 def rows_of(job):
     """What the job says, in rows of a name and a text."""
     low, high = (job.grid.point((*job.area[at : at + 2], z)) for at, z in ((0, job.floor), (2, job.top)))
     along, rows = job.columns()
     yield "cutter", cutter_of(job)
     yield "stock", f"from {low} to {high}: {job.mm(job.sides[0])} by {job.mm(job.sides[1])} by {job.mm(job.top - job.floor)}"
-    yield "start", job.grid.point((*job.home, job.clear))
+    yield "start", start_of(job)
     yield "columns", f"{along} by {rows}, {along * rows:,} in all, {job.mm(job.pitch)} apart"
     yield "samples", f"at most {job.mm(job.sample)} apart along a move"
     near = f"a part point less than {job.mm(job.band)} away" if job.band else "the part at its place"
@@ -87,6 +97,10 @@ def rows_of(job):
     yield "depth", f"a feed cuts at most {job.mm(job.max_cut)} deep" if job.max_cut else "no limit on how deep a feed cuts"
     if job.slack or job.overcut or job.graze:
         yield "machine", f"the tip is at most {job.mm(job.slack)} off; the part may be cut by {job.mm(job.overcut)}, and stock shaved by {job.mm(job.graze)}"
+    if job.keep_out:
+        yield "fixtures", f"{len(job.keep_out)} to keep out of, the highest up to Z{job.grid.millimetres(max(it[4] for it in job.keep_out))}"
+    if job.spindle:
+        yield "program", "has to start the spindle, and to say how fast it feeds, before it feeds"
     holder = f"{job.mm(2 * job.holder_radius)} across, {job.mm(job.stickout)} over the tip" if job.stickout else "none, so nothing over the cutter is looked at"
     yield "holder", holder
 
@@ -122,6 +136,20 @@ def notes_on_stock(job):
         yield "overcut: with a slack and without it a program that is cut to size is rejected"
     if job.allowance < job.slack:
         yield "allowance: it is under slack, by which the tip may be too high"
+    yield from notes_on_boxes(job)
+
+
+def notes_on_boxes(job):
+    """What the boxes of `keep_out` leave open."""
+    x0, y0, x1, y1 = job.area
+    over = [number for number, it in enumerate(job.keep_out) if it[0] < x1 and it[2] > x0 and it[1] < y1 and it[3] > y0]
+    low = [number for number, it in enumerate(job.keep_out) if it[4] <= job.floor]
+    if over:
+        yield f"keep_out: box {', '.join(map(str, over))} stands in area; stock under it stays, and is left too high where the part doesn't cover it"
+    if low and not job.slack:
+        yield f"keep_out: box {', '.join(map(str, low))} isn't over floor, so nothing ever comes into it"
+    if job.keep_out and not job.stickout:
+        yield "keep_out: with no holder_radius and stickout the holder may come into a box unseen"
 
 
 def notes_on_plan(job):
@@ -136,6 +164,8 @@ def notes_on_plan(job):
         yield "max_cut: without it the cutter may feed straight down through the whole stock"
     if job.levels:
         yield "levels: mostly one plunge at each of their points, and no pass along the wall"
+    if job.spindle:
+        yield "spindle: a plan has no feed rate, so the answer is `refused job missing feed`: plan by a copy of the job without it"
     if job.path_tol is not None and job.max_cut:
         yield "path_tol: with max_cut the straight ways are refused where they are too deep, and what lies between stays: leave one of them out"
 

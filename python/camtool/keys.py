@@ -32,7 +32,8 @@ Key = collections.namedtuple("Key", "name kind find")
 
 # Every key that is written, in the order of the file. A further key is a further row, and a method of Setup that returns
 # its Value, or None where the key is left out. Of the kinds `near`, `low` and `high` are lengths, rounded to the nearest
-# unit, down or up; `places` are several lengths; `whole` and `text` are written as they are.
+# unit, down or up; `places` are several lengths, `boxes` several boxes, rounded so that they hold what was measured;
+# `whole`, `text` and `truth` are written as they are.
 KEYS = (
     Key("unit", "text", "find_unit"),
     Key("cutter", "text", "find_cutter"),
@@ -51,6 +52,9 @@ KEYS = (
     Key("allowance", "near", "find_allowance"),
     Key("band", "high", "find_band"),
     Key("overcut", "low", "find_overcut"),
+    Key("keep_out", "boxes", "find_keep_out"),
+    Key("start", "text", "find_start"),
+    Key("spindle", "truth", "find_spindle"),
     Key("layer", "near", "find_layer"),
     Key("rough_stock", "near", "find_rough_stock"),
     Key("max_cut", "near", "find_max_cut"),
@@ -216,14 +220,15 @@ class Setup:
     def clear(self):
         """The height at which a program starts, and whether that is a guess."""
         highest = [it.high[2] for it in self.programs if it.high[2] is not None]
-        top = rounded(self.stock[1][2] + Decimal("0.01"), self.least, ROUND_CEILING)
+        top = rounded(max(self.stock[1][2] + Decimal("0.01"), self.highest_box or self.stock[1][2]), self.least, ROUND_CEILING)
         return (max(highest), False) if highest and max(highest) >= top else (top + OVER, True)
 
     def find_clear(self):
         """The height at which a program starts."""
         value, is_guess = self.clear
         if is_guess:
-            return Value(value, f"{short(OVER)} mm over the stock" if self.is_plan else f"{short(OVER)} mm over the stock; no Z of the programs is over it", True)
+            over = f"{short(OVER)} mm over the stock" + (" and what stands on the table" if self.asked.keep_out else "")
+            return Value(value, over if self.is_plan else f"{over}; no Z of the programs is over it", True)
         return Value(value, "the highest Z of the programs; the tip stands there, over `home`, before the first line with X, Y or Z")
 
     def find_home(self):
@@ -355,6 +360,25 @@ class Setup:
             return None
         why, is_asked = "how far the tool may come into the part", self.asked.overcut is not None
         return Value(self.overcut, why if is_asked else f"{why}, as by a path that slides along a wall; --overcut sets it", not is_asked)
+
+    # ---- what stands on the machine, and how programs start
+
+    @cached_property
+    def highest_box(self):
+        """The greatest height of what stands on the machine, or None."""
+        return max((it[4] for it in self.asked.keep_out), default=None)
+
+    def find_keep_out(self):
+        """What stands on the machine, where that is said."""
+        return Value(self.asked.keep_out, "what cutter and holder keep out of: clamps, vice, pins") if self.asked.keep_out else None
+
+    def find_start(self):
+        """From where a program starts, where that is said."""
+        return Value(self.asked.start, "from where a program starts") if self.asked.start else None
+
+    def find_spindle(self):
+        """Whether each feed needs a spindle that turns, where that is asked for."""
+        return Value("true", "no feed before M3 or M4, an S over 0 and an F over 0") if self.asked.spindle else None
 
     # ---- what a plan takes
 

@@ -22,7 +22,7 @@ Refused = collections.namedtuple("Refused", "line text code told sentence after"
 # What stands in for a word that is struck, so that the lines behind it are read as they were meant.
 STAND_INS = {"G2": "G1", "G3": "G1", "G20": "G21", "G91": "G90"}
 # What is put before a line that lacks it.
-LACKING = {"no-units": "G21", "no-absolute": "G90", "no-motion": "G1"}
+LACKING = {"no-units": "G21", "no-absolute": "G90", "no-motion": "G1", "no-spindle": "S1 M3", "no-feed": "F1"}
 CYCLES = "G73 G76 G81 G82 G83 G84 G85 G86 G87 G88 G89"
 # From which struck words a refusal may come, by its code or, of a word that isn't in the profile, by its letter.
 BEFORE = {
@@ -46,7 +46,7 @@ cutter = "flat"
 radius = 1
 floor = -{most}
 top = -{most}
-clear = {most}
+clear = {clear}
 area = [0, 0, 0, 0]
 home = [0, 0]
 pitch = 1
@@ -58,13 +58,27 @@ PART = b"solid\nendsolid\n"
 
 
 class Asking:
-    """A folder in which camtool is asked about copies of a program, with a job and a part that judge nothing."""
+    """A folder in which camtool is asked about copies of a program, with a job and a part that judge nothing. `habits` are
+    those of a job's keys by which it reads a program: `start`, with `clear`, and `spindle`."""
 
-    def __init__(self, folder, unit):
-        self.folder, self.job = folder, {"unit": unit}
-        most = 524_287 if unit == "thousandth" else 131_071
-        self.store("job.toml", JOB.format(unit=unit, most=most).encode("ascii"))
+    def __init__(self, folder, unit, habits):
+        self.folder, self.job, self.habits = folder, {"unit": unit}, habits
+        self.store_job()
         self.store("part.stl", PART)
+
+    def store_job(self):
+        """Stores the job, with its habits as they are."""
+        most = 524_287 if self.job["unit"] == "thousandth" else 131_071
+        start, clear = self.habits.get("start", "home"), self.habits.get("clear", most)
+        keys = JOB.format(unit=self.job["unit"], most=most, clear=clear if start != "home" else most)
+        keys += f'start = "{start}"\n' if start != "home" else ""
+        keys += "spindle = true\n" if self.habits.get("spindle") else ""
+        self.store("job.toml", keys.encode("ascii"))
+
+    def start_at_home(self):
+        """Takes from now on that a program starts over the job's home: how it starts has been told."""
+        self.habits = {**self.habits, "start": "home"}
+        self.store_job()
 
     def store(self, name, text):
         """Stores bytes under a name in the folder."""
@@ -157,20 +171,22 @@ def refused_of(copy, refusal, text, job):
     why = why_not(after or told) if refusal.code == "not-in-profile" else ""
     sentence = cause or sentence_of(refusal, job, told, why) or "docs/FORMATS.md says what this refusal means"
     found = Refused(refusal.line, quoted(line), refusal.code, told, sentence, after)
-    copy.strike(refusal.line, refusal.code, fault)
-    copy.note(refusal.line, told)
+    if refusal.code != "start":
+        copy.strike(refusal.line, refusal.code, fault)
+        copy.note(refusal.line, told)
     return found
 
 
-def refused_in(name, text, unit, folder):
+def refused_in(name, text, unit, folder, habits):
     """Returns all that camtool refuses of a program, and whether it takes what is left of it.
 
     name    the program's name
     text    its bytes
     unit    the job's unit, "hundredth" or "thousandth"
     folder  an empty folder for copies
+    habits  the keys `start`, `clear` and `spindle` of a job that has them
     """
-    asking, copy, lines, found = Asking(folder, unit), Copy(text), text.split(b"\n"), []
+    asking, copy, lines, found = Asking(folder, unit, habits), Copy(text), text.split(b"\n"), []
     while len(found) < MOST:
         refusal = asking.refusal(copy.text())
         if refusal is None:
@@ -185,19 +201,22 @@ def refused_in(name, text, unit, folder):
             found.append(Refused(refusal.line, "", refusal.code, None, sentence_of(refusal, asking.job) or "", None))
             return found, False
         found.append(refused_of(copy, refusal, lines, asking.job))
+        if refusal.code == "start":
+            asking.start_at_home()
     return found, False
 
 
-def all_refused(name, text, unit=None):
+def all_refused(name, text, unit=None, habits=None):
     """Returns all that camtool refuses of a program of this name, whether it takes what is left of it, and the unit of the job that it
-    was asked with: that which is given, or hundredths where the program has no finer number.
+    was asked with: that which is given, or hundredths where the program has no finer number. `habits` are the job's keys
+    `start`, `clear` and `spindle`, of which those that it has count.
 
     Raises OSError where there is no camtool, and RuntimeError where it answers nothing.
     """
     with tempfile.TemporaryDirectory(prefix="camtool-") as folder:
-        found, is_taken = refused_in(name, text, unit or "hundredth", folder)
+        found, is_taken = refused_in(name, text, unit or "hundredth", folder, habits or {})
         if unit is None and any(it.code == "off-grid" for it in found):
-            return (*refused_in(name, text, "thousandth", folder), "thousandth")
+            return (*refused_in(name, text, "thousandth", folder, {}), "thousandth")
     return found, is_taken, unit or "hundredth"
 
 

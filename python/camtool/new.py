@@ -1,4 +1,4 @@
-"""camtool-new PART [PROGRAM..] [--tools=TABLE] [--tool=N ..] [--stock=X,Y,Z|MARGIN] [--allowance=MM] [--band=MM] [--overcut=MM] [--layer=MM] [-o FOLDER] [--force]
+"""camtool-new PART [PROGRAM..] [--tools=TABLE] [--tool=N ..] [--stock=X,Y,Z|MARGIN] [--allowance=MM] [--band=MM] [--overcut=MM] [--keep-out=X,Y,X,Y,Z ..] [--start=anywhere] [--spindle] [--layer=MM] [-o FOLDER] [--force]
 
 Makes the job for a part and the programs that cut it: job.toml, and for several programs list.toml, which names them in
 the order of the call, each with its cutter. With no program it makes a job for `camtool plan`. All that it takes from
@@ -18,6 +18,9 @@ guess is marked `guessed:` there, and told: look at these numbers, or call it ag
 --allowance=MM     how much may be left standing; 0.1 if left out
 --band=MM          how far from a wall nothing that stands is told
 --overcut=MM       how far a program may come into the part; 0.05 if left out, in thousandths 0.015
+--keep-out=X,Y,X,Y,Z  a box that cutter and holder keep out of: its least and greatest X and Y, and its height; once for each
+--start=anywhere   programs start from anywhere: a line with Z alone, at or over `clear`, and then one with X and Y
+--spindle          programs must start the spindle, and say how fast they feed, before they feed
 --layer=MM         for a plan: how much roughing takes off at a time
 -o FOLDER          where the files go; the current folder if left out
 --force            write over files that are there
@@ -42,6 +45,9 @@ from camtool.keys import DEEPEST, KEYS, REACH, STEP_KEYS, UNITS, WIDEST, Setup
 def written(key, found, setup):
     """Returns a key's value as it stands in the file, and its lengths in millimetres, "" where it has none."""
     ways = {"near": ROUND_HALF_UP, "places": ROUND_HALF_UP, "low": ROUND_FLOOR, "high": ROUND_CEILING}
+    if key.kind == "boxes":
+        ends = (ROUND_FLOOR, ROUND_FLOOR, ROUND_CEILING, ROUND_CEILING, ROUND_CEILING)
+        return str([[int((it * UNITS[setup.unit]).to_integral_value(way)) for it, way in zip(box, ends)] for box in found.value]), ""
     if key.kind not in ways:
         return (f'"{found.value}"' if key.kind == "text" else str(found.value)), ""
     units = lambda it: int((it * UNITS[setup.unit]).to_integral_value(ways[key.kind]))
@@ -106,12 +112,18 @@ class Asked:
         lengths = (length_of(it, getattr(words, it)) for it in ("allowance", "band", "overcut", "layer"))
         self.allowance, self.band, self.overcut, self.layer = lengths
         self.stock = [length_of("stock", it, True) for it in words.stock.split(",")] if words.stock else []
+        self.start, self.spindle = words.start, words.spindle
+        self.keep_out = [[length_of("keep-out", it, True) for it in box.split(",")] for box in words.keep_out or []]
+        if any(len(it) != 5 or it[0] > it[2] or it[1] > it[3] for it in self.keep_out):
+            stop("--keep-out takes X,Y,X,Y,Z in millimetres: the least X and Y, the greatest, and the height")
         if len(self.stock) not in (0, 1, 3, 6) or (len(self.stock) == 1 and self.stock[0] < 0):
             stop("--stock takes a margin, three sides X,Y,Z, or two corners X,Y,Z,X,Y,Z, in millimetres")
         if self.layer is not None and self.programs:
             stop("--layer is for a plan: leave out the programs, or the layer")
         if self.overcut is not None and not self.programs:
             stop("--overcut is for programs: a plan keeps off the part")
+        if self.spindle and not self.programs:
+            stop("--spindle is for programs: a plan has no feed rate yet")
         if len(self.tools) not in (0, 1, max(len(self.programs), 1)):
             stop("--tool stands once for all programs, or once for each")
 
@@ -217,6 +229,9 @@ def main(words=None):
     for name in ("tools", "stock", "allowance", "band", "overcut", "layer"):
         reader.add_argument(f"--{name}")
     reader.add_argument("--tool", action="append")
+    reader.add_argument("--keep-out", action="append")
+    reader.add_argument("--start", choices=("home", "anywhere", "change"))
+    reader.add_argument("--spindle", action="store_true")
     reader.add_argument("-o", default=".")
     reader.add_argument("--force", action="store_true")
     asked = Asked(reader.read(words))

@@ -26,7 +26,7 @@ function start() {
   const canvas = byId("map"), slider = byId("slider"), output = byId("at");
   const context = canvas.getContext("2d");
   const margin = { left: 46, right: 14, top: 12, bottom: 30 };
-  const job = data.job, columns = data.columns;
+  const job = data.job, columns = data.columns, boxes = job.keep_out || [];
   const part = numbersOf(columns.part);
   const tops = columns.tops ? numbersOf(columns.tops) : part;
   const kinds = columns.kinds ? bytesOf(columns.kinds) : new Uint8Array(part.length);
@@ -46,7 +46,9 @@ function start() {
   }
 
   function startOf(at) {
-    if (at === 0 || path.step[at] !== path.step[at - 1]) return [job.home[0], job.home[1], job.clear];
+    // (a program that starts from anywhere has its first move where that ends)
+    const first = job.start && job.start !== "home" ? [path.x[at], path.y[at], path.z[at]] : [job.home[0], job.home[1], job.clear];
+    if (at === 0 || path.step[at] !== path.step[at - 1]) return first;
     return [path.x[at - 1], path.y[at - 1], path.z[at - 1]];
   }
 
@@ -109,7 +111,13 @@ function start() {
       box.y0 = Math.min(box.y0, path.y[at]);
       box.y1 = Math.max(box.y1, path.y[at]);
     }
-    const edge = Math.max(columns.pitch, reach / 3);
+    const edge = Math.max(columns.pitch, reach / 3), far = { x: (box.x1 - box.x0) / 3, y: (box.y1 - box.y0) / 3 }, own = { ...box };
+    for (const [x0, y0, x1, y1] of boxes) {
+      box.x0 = Math.max(Math.min(box.x0, x0), own.x0 - far.x);
+      box.x1 = Math.min(Math.max(box.x1, x1), own.x1 + far.x);
+      box.y0 = Math.max(Math.min(box.y0, y0), own.y0 - far.y);
+      box.y1 = Math.min(Math.max(box.y1, y1), own.y1 + far.y);
+    }
     return { x0: box.x0 - edge, y0: box.y0 - edge, x1: box.x1 + edge, y1: box.y1 + edge };
   }
 
@@ -152,6 +160,7 @@ function start() {
     if (byId("show-left").checked) drawSurface();
     drawGrid();
     drawArea();
+    drawBoxes();
     drawPath();
     drawFailing();
     drawChosen();
@@ -165,6 +174,16 @@ function start() {
     const half = columns.pitch / 2;
     context.imageSmoothingEnabled = false;
     context.drawImage(surface, toX(columns.x0 - half), toY(columns.y0 + (columns.rows - 0.5) * columns.pitch), columns.along * columns.pitch * view.scale, columns.rows * columns.pitch * view.scale);
+  }
+
+  function drawBoxes() {
+    context.fillStyle = "rgba(185, 147, 90, .55)";
+    context.strokeStyle = "#6b4a1f";
+    context.lineWidth = 1.4;
+    for (const [x0, y0, x1, y1] of boxes) {
+      context.fillRect(toX(x0), toY(y1), (x1 - x0) * view.scale, (y1 - y0) * view.scale);
+      context.strokeRect(toX(x0), toY(y1), (x1 - x0) * view.scale, (y1 - y0) * view.scale);
+    }
   }
 
   function drawArea() {
@@ -378,6 +397,7 @@ function start() {
     const clip = svg("clipPath", { id: "frame" }, svg("rect", { x: left, y: 8, width: wide - left - 8, height: high })) + svg("clipPath", { id: "inside" }, svg("path", { d: partShape }));
     let inner = svg("path", { d: stock, fill: "#eed9a0", stroke: "#bfa45a" }) + svg("path", { d: partShape, fill: "#a4a9b1", stroke: "#565c64", "stroke-width": 1.4 });
     inner += svg("path", { d: `M${text([[-it.wide, job.floor], [it.wide, job.floor]])}`, stroke: "#565c64", "stroke-dasharray": "2 3" });
+    for (const [from, to, high] of it.boxes) inner += svg("rect", { x: x(from).toFixed(1), y: y(high).toFixed(1), width: Math.max(x(to) - x(from), 1).toFixed(1), height: 4000, fill: "#b9935a", "fill-opacity": 0.7, stroke: "#6b4a1f" });
     if (it.column) inner += columnBar(it, x, y);
     if (it.step !== null) inner += toolOf(it, x, y, text, partShape);
     const frame = svg("rect", { x: left, y: 8, width: wide - left - 8, height: high, fill: "none", stroke: "#8b929b" });
@@ -469,7 +489,7 @@ function start() {
     }
     byId("view").innerHTML = sideView(it);
     const where = move ? `The tip at X${mm(it.middle[0])} Y${mm(it.middle[1])} Z${mm(it.middle[2])}` : `Through X${mm(it.middle[0])} Y${mm(it.middle[1])}`;
-    byId("side-told").textContent = `${where}, cut ${facing(it.along)}. Grey: the part; sand: the stock after all moves${move ? "; red: the tool inside the part" : ""}. In mm.`;
+    byId("side-told").textContent = `${where}, cut ${facing(it.along)}. Grey: the part; sand: the stock after all moves${it.boxes.length ? "; brown: a box of keep_out" : ""}${move ? "; red: the tool inside the part" : ""}. In mm.`;
   }
 
   function chooseLine(step, number, isMove, closer) {
@@ -583,6 +603,7 @@ function start() {
   if (!kinds.some((it) => it > 1)) for (const it of document.querySelectorAll(".legend .bad")) it.hidden = true;
   slider.max = path.count;
   slider.value = path.count;
+  byId("boxes").hidden = !boxes.length;
   listen();
   resize();
   tellSlider();

@@ -114,7 +114,7 @@ def data_of(seen, findings):
     if not findings:
         views = [page_view.view_of_middle(seen)]
     tools = [{"radius": it.job["radius"], "outline": Shape(it.job).outline()} for it in seen.steps]
-    shown = {key: job[key] for key in ("floor", "top", "clear", "area", "home", "holder_radius", "stickout") if key in job}
+    shown = {key: job[key] for key in ("floor", "top", "clear", "area", "home", "holder_radius", "stickout", "keep_out", "start") if key in job}
     return {
         "places": seen.grid.places, "job": shown, "programs": [base(it.name) for it in seen.steps], "tools": tools,
         "columns": columns_data(seen), "path": path_data(seen), "findings": told, "views": views,
@@ -200,7 +200,9 @@ def numbers_of(seen):
     if corners:
         low, high = (tuple(pick(it[axis] for it in corners) for axis in range(3)) for pick in (min, max))
         rows.append(("part", f"{point(low)} to {point(high)} mm; {len(seen.triangles):,} triangles"))
-    rows.append(("start", f"tip over {point((*job['home'], job['clear']))}"))
+    rows.append(("start", start_told(job, point)))
+    boxes = job.get("keep_out", [])
+    rows += [("keep_out", f"{command.counted(len(boxes), 'box', 'boxes')}, the highest up to Z{mm(max(it[4] for it in boxes))}")] if boxes else []
     rows.append(("pitch", f"{mm(job['pitch'])} mm"))
     rows.append(("allowance, band", f"{mm(job['allowance'])} mm, {mm(job['band'])} mm"))
     rows.append(("max_cut", f"{mm(job['max_cut'])} mm" if job.get("max_cut") else "no limit on the depth of a cut"))
@@ -210,6 +212,14 @@ def numbers_of(seen):
     if "stickout" in job:
         holder = f"diameter {mm(2 * job['holder_radius'])} mm, {mm(job['stickout'])} mm over the tip"
     return [*rows, ("holder", holder)]
+
+
+def start_told(job, point):
+    """Returns from where a program starts."""
+    if job.get("start", "home") == "home":
+        return f"tip over {point((*job['home'], job['clear']))}"
+    place = "anywhere" if job["start"] == "anywhere" else "where the tool is changed"
+    return f"from {place}: the first two lines bring the tip to its first place"
 
 
 def table(rows):
@@ -226,7 +236,9 @@ def lead_of(seen, findings):
         tools = f"the tools of {names[2]} and the stock" if seen.is_list else "the tool and the stock"
         mm, overcut = seen.grid.millimetres, seen.job.get("overcut", 0)
         scrape = f"comes at most {mm(overcut)} mm into it" if overcut else "doesn't scrape it"
-        return f"{names[2]} cuts {names[1]} within allowance and band, and {scrape}, with {tools} of {names[0]}."
+        boxes = len(seen.job.get("keep_out", []))
+        clear = f" It keeps out of the {command.counted(boxes, 'box', 'boxes')} on the table." if boxes else ""
+        return f"{names[2]} cuts {names[1]} within allowance and band, and {scrape}, with {tools} of {names[0]}.{clear}"
     return f"Don't cut by {names[2]}: {counts_of(seen, findings)}."
 
 
@@ -280,7 +292,11 @@ def notes_of(seen):
         said.append("The stock is that of all programs of the list, each with its cutter.")
     if not seen.is_accepted:
         said.append("What is left is shown as after all moves, those that fail too.")
-    return said + ["Clamps, feeds and the spindle aren't looked at. The setup sheet (camtool-sheet) has what must be true at the machine."]
+    unseen = [] if seen.job.get("keep_out") else ["clamps"]
+    unseen += ["how fast it feeds"] if seen.job.get("spindle") else ["feeds", "the spindle"]
+    told = " and ".join([", ".join(unseen[:-1]), unseen[-1]] if len(unseen) > 1 else unseen)
+    more = " What stands on the table beside the boxes isn't seen." if seen.job.get("keep_out") else ""
+    return said + [f"{told[0].upper()}{told[1:]} {'isn' if unseen == ['how fast it feeds'] else 'aren'}'t looked at.{more} The setup sheet (camtool-sheet) has what must be true at the machine."]
 
 
 def refusal_told(names, line):

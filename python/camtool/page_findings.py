@@ -5,9 +5,9 @@ A cause is one test that moves fail in one way: as deep, in the same direction. 
 import collections
 import math
 
-from camtool import page_map, page_read
+from camtool import page_map, page_read, texts
 from camtool.command import counted
-from camtool.page_solid import Cylinder, Hit, Shape, hit_on, steepness_of
+from camtool.page_solid import Cylinder, Hit, Near, Shape, hit_on, steepness_of
 
 # Of how many failing moves it is measured how far the part reaches into the tool, and how many are listed of a cause.
 MEASURED, LISTED = 4_000, 200
@@ -16,6 +16,8 @@ PLACES = 64
 # How far two units' widening, and the rounding of a path, may let a touch look like a cut, beside the overcut: in units, by
 # their decimals.
 TOUCH = {2: 8, 3: 24}
+# The tests that meet a box of `keep_out`.
+BOXED = ("fixture", "holder-fixture")
 # How many pieces of stock that are left too high are told.
 PIECES = 12
 # What to do, by the test that fails or by what is left.
@@ -31,6 +33,7 @@ ADVICE = {
     "the path {off} off the part.",
     "deep": "Raised by that much, at both ends, {who} the part. Are the part's zero and the program's the same?",
     "near": "Keep the path three or four units off the part, or write an `overcut` of 5 units: the tool may then come so far into it.",
+    "box": "Lift the move until {tool} is over Z{z}, or lead it round the box. Does the clamp stand where the box does? No `overcut` counts there.",
     "Holder": "Let the tool stand out further, or take a narrower holder.",
     "Cutter": "Move the path {deep} mm away, or take a smaller tool. Is the job's `radius` that of the tool?",
     "small": "Smaller than the tool. A hole that a drill makes? Put the drilling into a list for `camtool rest`, or close the hole "
@@ -79,6 +82,8 @@ def measured_of(seen, item):
     move = step.moves[item.move]
     if item.test in ("gouge", "holder"):
         return measured_part(seen, step.job, item, move)
+    if item.test in BOXED:
+        return measured_box(step.job, item, move)
     if item.test == "floor":
         low = min(move.start, move.end, key=lambda it: it[2])
         return Measured(item, "floor", step.job["floor"] - low[2], Hit(low, 0, 0, low, 0))
@@ -116,6 +121,19 @@ def measured_part(seen, job, item, move):
     return Measured(item, "deep", up, hit) if up <= hit.side else Measured(item, "side", hit.side, hit)
 
 
+def measured_box(job, item, move):
+    """Returns a move that meets a box of `keep_out` with how far it does: the lesser of the two ways out, sideways and upward."""
+    lift = job["stickout"] if item.test == "holder-fixture" else 0
+    shape, box = Cylinder(job["holder_radius"]) if lift else Shape(job), job["keep_out"][item.box]
+    raised = [(*it[:2], it[2] + lift) for it in (item.segment[0] if item.segment else move.start, move.end)]
+    hit = hit_on(shape, *raised, Near(texts.faces_of(box)))
+    if hit is None:
+        place = item.segment[1] if item.segment else move.end
+        return Measured(item, "side", 0, Hit(place, 0, 0, (*place[:2], box[4]), 0))
+    hit = hit._replace(tip=(*hit.tip[:2], hit.tip[2] - lift))
+    return Measured(item, "deep", hit.up, hit) if hit.up <= hit.side else Measured(item, "side", hit.side, hit)
+
+
 def may_touch(seen, measured):
     """Returns whether a failing move may only touch: it meets the part little, and isn't too deep over a level face."""
     is_little = measured.item.test in ("gouge", "holder") and measured.amount <= TOUCH[seen.grid.places] + seen.job.get("overcut", 0)
@@ -140,7 +158,7 @@ def grouped(measured):
     """Returns the failing moves in groups of one cause each, in the order of their first ones: lists."""
     groups, by_key = [], collections.defaultdict(list)
     for one in measured:
-        key = one.item.step, one.item.test, one.way
+        key = one.item.step, one.item.test, one.way, one.item.box
         same = by_key[key]
         near = [it for it in same[-1:] if one.item.move - it[-1].item.move <= 4 and are_alike(one.amount, it[-1].amount, True)]
         like = near or [it for it in same if are_alike(one.amount, it[0].amount, False)]
@@ -208,6 +226,8 @@ def words_of(seen, group, worst):
         return words_of_touch(job, worst, mm)
     if test in ("gouge", "holder"):
         return words_of_part(seen, group, worst, mm)
+    if test in BOXED:
+        return words_of_box(seen, worst)
     z = seen.grid.millimetres
     # (where no report tells the column's top, the depth is the most that it may be)
     deep = ("up to " if worst.item.column and worst.item.column[4] is None else "") + mm(worst.amount)
@@ -241,6 +261,17 @@ def words_of_part(seen, group, worst, mm):
         return f"{tool} along {surface}, nearer than camtool can tell from a cut", ADVICE["near"]
     deep = short(seen, worst.amount)
     return f"{tool} into {surface}, about {deep} mm sideways", ADVICE[tool].format(deep=deep)
+
+
+def words_of_box(seen, worst):
+    """Returns the title and the advice of moves that meet a box of `keep_out`."""
+    tool = "Holder" if worst.item.test == "holder-fixture" else "Cutter"
+    box, much = f"box {worst.item.box} of `keep_out`", short(seen, worst.amount)
+    height = seen.grid.millimetres(seen.job["keep_out"][worst.item.box][4])
+    title = f"{tool} into {box}, about {much} mm {'too deep' if worst.way == 'deep' else 'sideways'}"
+    if worst.amount < 3:
+        title = f"{tool} along {box}, nearer than camtool can tell from a cut"
+    return title, ADVICE["box"].format(tool=f"the {tool.lower()}", z=height)
 
 
 # ---- what is left

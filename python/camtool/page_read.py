@@ -19,12 +19,12 @@ from camtool.page_solid import Near
 
 # A move that fails, as a report tells it: which program of the list it is of, the test, the move, its line and that
 # line's words, the two ends of its first piece that fails, the triangle (its number) or the column (row, column, x, y,
-# top) in the way, and the lift; what isn't told is None.
-Item = collections.namedtuple("Item", "step test move line words segment triangle column lift")
+# top) in the way, the lift, and the number of the box in the way; what isn't told is None.
+Item = collections.namedtuple("Item", "step test move line words segment triangle column lift box", defaults=(None,))
 # A program: its name, the job with its cutter, its text, and its moves.
 Step = collections.namedtuple("Step", "name job text moves")
 # The tests that don't look at the stock, so that what came before doesn't matter.
-OF_PART = ("floor", "gouge", "holder")
+OF_PART = ("floor", "gouge", "holder", "fixture", "holder-fixture")
 # By how many units an overcut is raised, and a holder narrowed, to see whether a move only touches, by the unit's decimals:
 # up to 0.05 mm, or 0.02 mm; the greatest overcut of a job; and how long one more judging may take, in seconds.
 MORE, DEEPEST, PATIENCE = {2: (1, 2, 3, 4, 5), 3: (1, 2, 3, 4, 5, 10, 15, 20)}, 500, 60
@@ -177,7 +177,7 @@ def item_of(grid, step, told_item):
     column = at and (at["row"], at["column"], *(units(grid, at[it]) for it in ("x", "y", "top")))
     return Item(
         step, told_item["test"], told_item["move"], told_item["line"], told_item["words"], segment, triangle and triangle["number"], column,
-        units(grid, told_item["lift"]))
+        units(grid, told_item["lift"]), told_item.get("box"))
 
 
 def look_at_moves(seen):
@@ -225,7 +225,7 @@ def piece_of(move, depth, number):
 
 def item_of_line(seen):
     """Returns the move that the verdict's line names, or None."""
-    found = re.fullmatch(r"rejected(?: file (\d+))? ([a-z-]+) move (\d+)(?: triangle (\d+)| row (\d+) column (\d+)| z \S+)(?: leaf (\d+) (\d+))?", seen.line)
+    found = re.fullmatch(r"rejected(?: file (\d+))? ([a-z-]+) move (\d+)(?: triangle (\d+)| row (\d+) column (\d+)| z \S+| box (?P<box>\d+))(?: leaf (?P<depth>\d+) (?P<number>\d+))?", seen.line)
     if not found:
         return None
     step, number = int(found[1] or 0), int(found[3])
@@ -235,8 +235,9 @@ def item_of_line(seen):
     if found[5]:
         row, along = int(found[5]), int(found[6])
         column = row, along, seen.job["area"][0] + along * seen.job["pitch"], seen.job["area"][1] + row * seen.job["pitch"], None
-    segment = piece_of(move, int(found[7]), int(found[8])) if found[7] else None
-    return Item(step, found[2], number, move.line, words, segment, int(found[4]) if found[4] else None, column, None)
+    segment = piece_of(move, int(found["depth"]), int(found["number"])) if found["depth"] else None
+    triangle, box = (int(it) if it else None for it in (found[4], found["box"]))
+    return Item(step, found[2], number, move.line, words, segment, triangle, column, None, box)
 
 
 # ---- whether it is only a touch

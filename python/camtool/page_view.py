@@ -33,6 +33,21 @@ def profile(seen, middle, along, wide):
     return part, stock
 
 
+def boxes_along(job, middle, along, wide):
+    """Returns the boxes of `keep_out` that a view cuts through: for each from where to where it does, and the height."""
+    found = []
+    for x0, y0, x1, y1, z in job.get("keep_out", []):
+        low, high = -wide, wide
+        for start, step, least, most in ((middle[0], along[0], x0, x1), (middle[1], along[1], y0, y1)):
+            if abs(step) > 1e-9:
+                one, other = sorted(((least - start) / step, (most - start) / step))
+                low, high = max(low, one), min(high, other)
+            elif not least <= start <= most:
+                high = low - 1
+        found += [[round(low), round(high), z]] if low <= high else []
+    return found
+
+
 def top_near(seen, x, y):
     """Returns the top of the column that is nearest to a place; the floor outside of the area."""
     columns = seen.columns
@@ -53,6 +68,7 @@ def view_of_move(seen, measured):
     beside = lambda it: round((it[0] - tip[0]) * along[0] + (it[1] - tip[1]) * along[1])
     view = {"middle": [round(it) for it in tip], "along": along, "wide": round(wide), "part": part, "stock": stock, "step": measured.item.step}
     view["hit"] = [beside(place), round(place[2])]
+    view["boxes"] = boxes_along(job, tip, along, wide)
     view["column"] = measured.item.column and [beside(measured.item.column[2:4]), round(place[2])]
     return view
 
@@ -82,7 +98,7 @@ def place_view(seen, middle, top, along, wide):
     part, stock = profile(seen, middle, along, wide)
     return {
         "middle": [round(middle[0]), round(middle[1]), top], "along": along, "wide": round(wide), "part": part, "stock": stock,
-        "step": None, "hit": None, "column": None}
+        "step": None, "hit": None, "column": None, "boxes": boxes_along(seen.job, middle, along, wide)}
 
 
 def views_of(seen, findings):

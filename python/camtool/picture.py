@@ -29,6 +29,7 @@ class Picture:
         x0, y0, x1, y1 = job["area"]
         xs = [x0, x1, *[it[0] for row in triangles for it in row], *[end[0] for move in moves for end in move[2:]]]
         ys = [y0, y1, *[it[1] for row in triangles for it in row], *[end[1] for move in moves for end in move[2:]]]
+        xs, ys = with_boxes(xs, job, 0), with_boxes(ys, job, 1)
         edge = max(job["radius"], (max(xs) - min(xs)) // 20, (max(ys) - min(ys)) // 20, 100)
         self.left, self.top = min(xs) - edge, max(ys) + edge
         self.scale = (WIDE - LEFT) / (max(xs) + edge - self.left)
@@ -84,6 +85,12 @@ class Picture:
         parts = ['<g clip-path="url(#frame)">', *self.parts, "</g>"]
         ground = f'<rect width="{WIDE}" height="{high:.0f}" fill="white"/>'
         return "\n".join([head, told, clip, ground, *parts, *axes_of(self), *words, *under, "</svg>"]) + "\n"
+
+
+def with_boxes(places, job, axis):
+    """Returns places along an axis with those of the job's boxes, that reach out at most by a third of how far the others do."""
+    low, high, edges = min(places), max(places), [it[axis + end] for it in job.get("keep_out", []) for end in (0, 2)]
+    return [*places, *(min(max(it, low - (high - low) // 3), high + (high - low) // 3) for it in edges)]
 
 
 # ---- axes, zero, scale and legend
@@ -219,6 +226,16 @@ def draw_part(picture, files, near):
     picture.legend.append((swatch('fill="rgb(175,178,183)"'), "the part (dark: high)"))
 
 
+def draw_boxes(picture, files, marks):
+    """Draws what stands on the machine: the boxes of `keep_out`, those that a move fails by in red."""
+    boxes = files.job.get("keep_out", [])
+    for number, (x0, y0, x1, y1, _) in enumerate(boxes):
+        color = "#c5161d" if number in marks.boxes else "#6b4a1f"
+        picture.shape([(x0, y0), (x1, y0), (x1, y1), (x0, y1)], f'fill="#b9935a" fill-opacity="0.55" {picture.stroke(color, 1.6)}')
+    if boxes:
+        picture.legend.append((swatch('fill="#b9935a" fill-opacity="0.55" stroke="#6b4a1f"'), "what stands on the machine (keep_out)"))
+
+
 def color_of(part):
     """Returns the colour of a height, from 0 for the lowest to 1 for the highest."""
     at = min(max(part, 0), 1) * (len(RAMP) - 1)
@@ -290,6 +307,7 @@ def picture_of(files, said, marks):
     """Returns the picture as a text of SVG."""
     picture = Picture(files)
     draw_part(picture, files, marks.first())
+    draw_boxes(picture, files, marks)
     draw_path(picture, files, marks.first())
     draw_marks(picture, files.job, marks)
     picture.legend.append(('<circle cx="8" cy="7" r="5" fill="none" stroke="#0b57c2" stroke-width="2"/>', "X0 Y0"))

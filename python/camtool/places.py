@@ -15,7 +15,7 @@ from camtool.command import read as text_of
 NAMED = 20
 # A column of stock is named by its row and its number in that, a piece of a move by its depth and its number. What
 # only a report tells is None for a line: the number of the program's line, its words, and the lift.
-Reason = collections.namedtuple("Reason", "test move triangle column leaf top line words lift", defaults=(None,) * 8)
+Reason = collections.namedtuple("Reason", "test move triangle column leaf top line words lift box", defaults=(None,) * 9)
 
 
 def reasons_of_line(verdict):
@@ -24,6 +24,10 @@ def reasons_of_line(verdict):
     if found:
         move, triangle, *leaf = map(int, found.groups()[1:])
         return [Reason(found[1], move, triangle=triangle, leaf=leaf)]
+    found = re.fullmatch(r"rejected (fixture|holder-fixture) move (\d+) box (\d+) leaf (\d+) (\d+)", verdict)
+    if found:
+        move, box, *leaf = map(int, found.groups()[1:])
+        return [Reason(found[1], move, box=box, leaf=leaf)]
     found = re.fullmatch(r"rejected (rapid|cut|holder-stock) move (\d+) row (\d+) column (\d+) leaf (\d+) (\d+)", verdict)
     if found:
         move, row, column, *leaf = map(int, found.groups()[1:])
@@ -50,6 +54,7 @@ def reason_of_item(item):
         line=item["line"],
         words=item["words"],
         lift=item["lift"],
+        box=item.get("box"),
     )
 
 
@@ -86,6 +91,13 @@ class Files:
             stop(f"the part has only {len(self.triangles)} triangles: the files aren't those of the verdict")
         return self.triangles[number]
 
+    def box(self, number):
+        """Returns one of the boxes of `keep_out` by its number from 0."""
+        boxes = self.job.get("keep_out", [])
+        if number >= len(boxes):
+            stop(f"the job has only {len(boxes)} boxes: the files aren't those of the verdict")
+        return boxes[number]
+
     def column(self, numbers):
         """Returns the place of a column of stock, x and y, by its row and its number in that."""
         row, column = numbers
@@ -93,10 +105,10 @@ class Files:
 
 
 class Marks:
-    """What is drawn of the places: moves, the pieces of them that fail, triangles and columns."""
+    """What is drawn of the places: moves, the pieces of them that fail, triangles, boxes and columns."""
 
     def __init__(self):
-        self.moves, self.pieces, self.triangles, self.columns = [], [], [], []
+        self.moves, self.pieces, self.triangles, self.boxes, self.columns = [], [], [], [], []
 
     def first(self):
         """Returns the first place."""
@@ -144,6 +156,17 @@ def tell_triangle(files, reason, marks):
     return [f"triangle {reason.triangle} of {files.names[1]}{way}: {', '.join(map(files.grid.point, triangle))}"]
 
 
+def tell_box(files, reason, marks):
+    """Returns the lines on the box in the way, and on what to do."""
+    box, point = files.box(reason.box), files.grid.point
+    marks.boxes.append(reason.box)
+    way, tool = (" is in the holder's way", "the holder") if reason.test == "holder-fixture" else (" is in its way", "the tool")
+    return [
+        f"box {reason.box} of `keep_out`{way}: {point(box[:2])} to {point(box[2:4])}, from below up to Z{files.grid.millimetres(box[4])}",
+        f"lift the move until {tool} is over that height, or lead it round the box; no overcut counts there",
+    ]
+
+
 def tell_column(files, reason, marks):
     """Returns the line on the column in the way, or left too high."""
     place = files.column(reason.column)
@@ -177,6 +200,8 @@ def tell(files, reason, marks):
         said += tell_piece(files, reason, marks)
     if reason.triangle is not None:
         said += tell_triangle(files, reason, marks)
+    if reason.box is not None:
+        said += tell_box(files, reason, marks)
     if reason.column is not None:
         said += tell_column(files, reason, marks)
     return said + tell_lift(reason)
@@ -226,6 +251,19 @@ def tell_accepted(files, verdict):
         said.append(f"the tip may be {grid.millimetres(slack)} mm off its place")
     if overcut:
         said.append(f"the part may be cut by {grid.millimetres(overcut)} mm; what of it is thinner may be gone")
+    return said + tell_setup(job)
+
+
+def tell_setup(job):
+    """Returns the lines on what an acceptance says of what stands on the machine, of the start and of the spindle."""
+    said = []
+    boxes, holder = job.get("keep_out", []), " nor the holder" if "holder_radius" in job else ""
+    if boxes:
+        said.append(f"the cutter{holder} comes into none of the {counted(len(boxes), 'box', 'boxes')} of `keep_out`; what else stands on the table isn't looked at")
+    if job.get("start", "home") != "home":
+        said.append("it may start from anywhere: its first line goes up or down, and its second one across, and neither is looked at")
+    if job.get("spindle"):
+        said.append("no line feeds before M3 or M4, an S over 0 and an F over 0")
     return said
 
 

@@ -42,6 +42,9 @@ KEYS = {
     "slack": ("how far the machine's tip may be from where its program says", SMALL("200")),
     "overcut": ("how deep a point of the part may lie in the cutter and be no gouge", SMALL("500")),
     "graze": ("how deep stock may lie in the cutter of a rapid and not count", SMALL("500")),
+    "keep_out": ("what stands on the machine, as clamps and a vice", "[[x0, y0, x1, y1, z], ..], at most 64 with x0 <= x1 and y0 <= y1, each of the five " + HEIGHT),
+    "start": ("from where a program starts", 'a text, "home", "anywhere" or "change"'),
+    "spindle": ("whether a program has to start the spindle", "true or false, without quotes"),
     "steps": ("which programs cut the stock, one after the other", "1 to 16 tables, each under a line [[steps]]"),
     "program": ("the name of the step's program", "a text, in quotes"),
 }
@@ -53,6 +56,8 @@ SENTENCES = {
     "job missing": "`{key}` is missing: add it; it is {what}: {form}",
     "job missing rise": "`rise` is missing, which a cone needs beside `run`: add it; it is {what}: {form}",
     "job missing run": "`run` is missing, which a cone needs beside `rise`: add it; it is {what}: {form}",
+    "job missing feed": "a plan for a job with `spindle = true` needs a feed rate, and no key names one yet: plan by a copy of the job without `spindle`, "
+    "put M3, an S and an F into the program, and verify it by the job itself",
     "job missing holder_radius": "`holder_radius` is missing, and `stickout` is there: give both or neither; it is {what}: {form}",
     "job missing stickout": "`stickout` is missing, and `holder_radius` is there: give both or neither; it is {what}: {form}",
     "job kind": "`{key}` ({what}) isn't of the right kind: write {form}",
@@ -73,6 +78,7 @@ SENTENCES = {
     "job relation graze slack": "`graze` is under twice `slack`, or of a cone its height is: leave `graze` out, and it is twice `slack` and 5 more",
     "job relation slack stickout": "`slack` isn't under `stickout`, or `holder_radius` and `slack` together are over 10,000: write a lesser `slack`, or measure the holder anew",
     "job relation slack clear": "at `clear` the tip may be under `top` by `slack`, and lower with a cone: raise `clear`, or write a lesser `slack`",
+    "job relation keep_out clear": "one of `keep_out` is over `clear`, at which the tip may be lower by `slack`, and lower still with a cone: raise `clear` over clamps and vice",
     "part expected": "another word is expected here: a part is ASCII STL, between `solid NAME` and `endsolid NAME` for each triangle "
     "`facet normal N N N outer loop`, three times `vertex X Y Z`, `endloop endfacet`; export it again",
     "part cut-short": "the text ends before its solid does: `endsolid` is missing, or the file was cut off; export it again",
@@ -89,9 +95,12 @@ SENTENCES = {
     "program late-tool": "{word} changes the tool behind the first move: write a program for each tool, and a list of them for `rest`",
     "program group": "{word} are of one modal group: write each on a line of its own, or leave out the one that isn't meant",
     "program twice": "{word} have the same letter: a line may have it once; part the line, or leave out the one that isn't meant",
+    "program start": "the job's `start` isn't `home`: the first line with an axis has to be G0 with Z alone, at or over `clear`, and the second G0 with X and Y and without Z",
     "program no-units": "the line moves an axis, and no G21 was seen: write G21 (millimetres) at the program's beginning, if it is in millimetres",
     "program no-absolute": "the line moves an axis, and no G90 was seen: write G90 (absolute coordinates) at the program's beginning, if they are absolute",
     "program no-motion": "the line has an axis, and neither G0 nor G1 is active: none came before, or G80 ended it; write the one that is meant",
+    "program no-spindle": "the line feeds, and the spindle doesn't turn: write M3 or M4, and an S over 0, before it; M5 and M6 stop the spindle",
+    "program no-feed": "the line feeds without a feed rate: write an F over 0 on it or before it",
     "program off-grid": "{word} is finer than the job's unit of {one} mm: have the program written with {decimals} decimals{finer}",
     "program out-of-range": "{word} is over {reach} mm in magnitude: keep the program nearer to its zero{coarser}",
     "program too-many-moves": "the program has over 1,000,000 moves: part it in several, and name them in a list for `rest`",
@@ -146,14 +155,14 @@ def sentence_of(refusal, job, word=None, why=""):
     """Returns what a refusal means and what to do, or None. `word` is what is at fault, and `why` why that is none of the profile's."""
     kinds = [refusal.kind, "job"] if refusal.kind == "list" else [refusal.kind]
     names = [f"{kind} {refusal.code}{rest}".strip() for rest in (f" {refusal.rest}", "") for kind in kinds]
-    found = next((SENTENCES[it] for it in names if it in SENTENCES), None)
+    named = next((it for it in names if it in SENTENCES), None)
     what, form = KEYS.get(refusal.rest, ("", ""))
-    if found is None or (refusal.code in ("missing", "kind", "range") and not what):
+    if named is None or (named in ("job missing", "job kind", "job range") and not what):
         return None
     near = difflib.get_close_matches(refusal.rest, KEYS, 1)
     facts = facts_of(job)
     usual = "a coordinate" if refusal.kind == "part" else "two words" if refusal.code in ("group", "twice") else "a word"
-    return found.format(
+    return SENTENCES[named].format(
         key=quoted(refusal.rest),
         near=f" (`{near[0]}`?)" if near else "",
         what=what,

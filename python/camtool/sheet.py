@@ -105,6 +105,8 @@ class Sheet:
         box = texts.box_of(it.end for it in self.step.moves)
         if box is None:
             return point("Clamps and vice", "The program has no moves.")
+        if self.job.get("keep_out"):
+            return self.boxes()
         radius = max(self.job["radius"], self.job.get("holder_radius", 0))
         sweeps = "Tool and holder sweep" if "holder_radius" in self.job else "The tool sweeps"
         low, high = [it - radius for it in box[0][:2]], [it + radius for it in box[1][:2]]
@@ -113,6 +115,15 @@ class Sheet:
             "Clamps and vice",
             f"They are nowhere in the job. {sweeps} {self.grid.point(low)} to {self.grid.point(high)}, down to Z{z(self.low)}.",
             f"Do all of them stand clear of that? Of the way from the machine's rest to the start too, over Z{z(self.job['clear'])}?")
+
+    def boxes(self):
+        """Returns the point on clamps and vice where the job has boxes for them."""
+        z, place = self.grid.millimetres, self.grid.point
+        tools = "cutter and holder keep" if "holder_radius" in self.job else "the cutter keeps"
+        told = [f"Box {at}: {place(it[:2])} to {place(it[2:4])}, up to Z{z(it[4])}. Measured: ________" for at, it in enumerate(self.job["keep_out"])]
+        said = f"All that stands on the table lies in these boxes, from below up to their height; {tools} out of them."
+        own = None if "holder_radius" in self.job else "! The job has no holder, so shank and holder may come into a box."
+        return point("Clamps and vice", said, *told, own, "What stands outside of them wasn't looked at: parallels, pins, the jaws' screws.")
 
     def zero(self):
         """Returns the point on the zero and the offsets."""
@@ -126,17 +137,27 @@ class Sheet:
     def start(self):
         """Returns the point on where the program starts."""
         place, first = self.grid.point((*self.job["home"], self.job["clear"])), self.facts.first
+        if self.job.get("start", "home") != "home" and first:
+            return self.start_from_anywhere(first)
         change = self.facts.words.get("M6", [None])[0]
         after = f"M6 on line {change} changes the tool before that, and an automatic changer leaves it elsewhere: bring the tip to the start behind it."
         return point("Start", f"Before line {first} the tip stands at {place}." if first else "The program has no moves.", after if change else None)
 
+    def start_from_anywhere(self, first):
+        """Returns the point on where the program starts, where it brings the tip there itself."""
+        high = self.grid.millimetres(self.step.moves[0].end[2])
+        return point(
+            "Start", f"From any place: line {first} brings the tip straight up or down to Z{high}, and the next line with an axis across.",
+            f"Where the tip stands lower, does the tool touch nothing there? Is nothing on its way across higher than Z{high}?")
+
     def motion(self):
         """Returns the point on exact paths and straight rapids."""
-        low = sheet_facts.low_rapids(self.step.moves, self.job["top"])
-        exact = self.lines("G61")
-        sideways = "No rapid goes sideways under the top of the stock."
+        boxes = self.job.get("keep_out", [])
+        low = sheet_facts.low_rapids(self.step.moves, max([self.job["top"], *(it[4] for it in boxes)]))
+        exact, high = self.lines("G61"), "of stock and boxes" if boxes else "of the stock"
+        sideways = f"No rapid goes sideways under the top {high}."
         if low:
-            sideways = f"! {len(low):,} rapids go sideways under the top of the stock, the first on line {low[0]}: the control must make straight rapids."
+            sideways = f"! {len(low):,} rapids go sideways under the top {high}, the first on line {low[0]}: the control must make straight rapids."
         missing = "! The program has no G61: set exact paths at the control (G64 rounds corners)."
         slack = self.job.get("slack", 0)
         if slack:
@@ -156,6 +177,8 @@ class Sheet:
             what = f"M5 on line {at}" if name else "No M3 or M4"
             turns = f"! {what} before the first cut on line {facts.cut}: start the spindle, or add it to the program."
         left = "! M4 turns the spindle the other way: is it a left-hand tool?" if name == "M4" else None
+        if self.job.get("spindle"):
+            return point("Spindle and feed", turns, left, self.feeds(), "Each feed was judged to have a spindle that turns, and a feed rate.")
         stops = [it for it in facts.words.get("M5", []) if facts.cut < it < self.last_cut()]
         return point("Spindle and feed", turns, left, self.feeds(), f"! M5 on line {stops[0]} stops the spindle before the last cut." if stops else None)
 

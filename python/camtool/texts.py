@@ -41,31 +41,46 @@ class Grid:
 
 
 def job_of(text):
-    """Returns the job's keys. With no reader of TOML it takes lines KEY = NUMBER, KEY = [NUMBER, ..], KEY = "TEXT" and
-    KEY = 'TEXT' alone."""
+    """Returns the job's keys. With no reader of TOML it takes lines KEY = NUMBER, KEY = [NUMBER, ..], KEY = [[NUMBER, ..], ..],
+    KEY = "TEXT", KEY = 'TEXT', KEY = true and KEY = false alone."""
     # (camtool takes a byte order mark before a job or a list)
     plain = text.decode("utf-8-sig")
     if tomllib:
         return tomllib.loads(plain)
-    job = {}
-    for key, value in re.findall(r"""^\s*(\w+)\s*=\s*([-+]?\d\w*|\[[^\]]*\]|"[^"\n]*"|'[^'\n]*')""", plain, re.M):
-        if value[0] in "\"'":
-            job[key] = value[1:-1]
-            continue
-        numbers = [int(it, 0) for it in re.findall(r"[-+]?\d\w*", re.sub(r"#.*", "", value))]
-        job[key] = numbers if value.startswith("[") else numbers[0]
-    return job
+    array = r"\[(?:[^\[\]]|\[[^\[\]]*\])*\]"
+    found = re.findall(rf"""^\s*(\w+)\s*=\s*([-+]?\d\w*|{array}|"[^"\n]*"|'[^'\n]*'|true\b|false\b)""", plain, re.M)
+    return {key: value_of(value) for key, value in found}
+
+
+def value_of(text):
+    """Returns what a number, a text in quotes, true, false, or an array of numbers or of such arrays, is."""
+    if text[0] in "\"'":
+        return text[1:-1]
+    if text in ("true", "false"):
+        return text == "true"
+    plain = re.sub(r"#.*", "", text)
+    rows = re.findall(r"\[[^\[\]]*\]", plain[1:])
+    if rows:
+        return [value_of(row) for row in rows]
+    numbers = [int(it, 0) for it in re.findall(r"[-+]?\d\w*", plain)]
+    return numbers if plain.startswith("[") else numbers[0]
 
 
 def job_text(job):
     """Returns the text of a job with these keys."""
-    values = ((key, json.dumps(value) if isinstance(value, (str, list)) else value) for key, value in job.items())
-    return "".join(f"{key} = {value}\n" for key, value in values)
+    return "".join(f"{key} = {json.dumps(value)}\n" for key, value in job.items())
 
 
 def start_of(job):
-    """Returns where a program starts."""
-    return (*job["home"], job["clear"])
+    """Returns where a program starts; None where it brings the tip to its first place itself, from anywhere."""
+    return (*job["home"], job["clear"]) if job.get("start", "home") == "home" else None
+
+
+def faces_of(box):
+    """Returns the two triangles of the upper face of one of the boxes of `keep_out`."""
+    x0, y0, x1, y1, z = box
+    one, other = (x0, y0, z), (x1, y1, z)
+    return [(one, (x1, y0, z), other), (one, other, (x0, y1, z))]
 
 
 def steps_of(text):
@@ -81,8 +96,8 @@ def words_of(line):
 
 
 def moves_of(text, start, grid):
-    """Returns the moves of a program that starts at this place."""
-    moves, here, mode, framed = [], list(start), None, False
+    """Returns the moves of a program that starts at this place; at None it brings the tip to its first place itself."""
+    moves, here, mode, framed = [], list(start or (0, 0, 0)), None, False
     for number, line in enumerate(text.split(b"\n"), 1):
         words = words_of(line)
         if words == "%":
@@ -104,7 +119,13 @@ def moves_of(text, start, grid):
             here = end
         if ends:
             break
-    return moves
+    return moves if start else from_anywhere(moves)
+
+
+def from_anywhere(moves):
+    """Returns the moves of a program that brings the tip to its first place: its first two lie there, and are of no length."""
+    place = moves[1].end if len(moves) > 1 else None
+    return [it._replace(start=place, end=place) for it in moves[:2]] + moves[2:] if place else []
 
 
 def box_of(places):

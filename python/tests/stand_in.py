@@ -2,7 +2,7 @@
 """A stand-in for camtool and camreport in the tests of pages and sheets: it judges roughly, of small examples alone.
 
 It knows `verify`, `rest` and `stock` of camtool, and camreport where its name ends with that. Of the tests it makes
-those of the floor and of the part, and that of what is left, over the part at its column alone.
+those of the floor, of the part and of the boxes, and that of what is left, over the part at its column alone.
 """
 import hashlib
 import json
@@ -43,15 +43,18 @@ def item_of(grid, job, near, text, number, move):
     wider = Shape({**job, "radius": job["radius"] + 2 - job.get("overcut", 0)})
     low = min(move.start[2], move.end[2])
     hit = hit_on(wider, move.start, move.end, near)
+    box = None
     if low >= job["floor"] and hit is None:
-        return None
-    test = "floor" if low < job["floor"] else "gouge"
+        box = next((at for at, it in enumerate(job.get("keep_out", [])) if hit_on(Shape(job), move.start, move.end, Near(texts.faces_of(it)))), None)
+        if box is None:
+            return None
+    test = "floor" if low < job["floor"] else "gouge" if box is None else "fixture"
     mm = grid.millimetres
     words = text.split(b"\n")[move.line - 1].decode("utf-8", "replace")
     segment = None if test == "floor" else [[mm(it) for it in end] for end in (move.start, move.end)]
-    triangle = None if test == "floor" else {"corners": [], "number": 0}
+    triangle = {"corners": [], "number": 0} if test == "gouge" else None
     return {
-        "column": None, "leaf": None, "lift": None if test == "floor" else mm(math.ceil(hit.up)), "line": move.line, "move": number,
+        **({} if box is None else {"box": box}), "column": None, "leaf": None, "lift": mm(math.ceil(hit.up)) if test == "gouge" else None, "line": move.line, "move": number,
         "segment": segment, "test": test, "triangle": triangle, "words": words}
 
 
@@ -70,7 +73,7 @@ def line_of(failing, left, moves, columns, cutters=""):
     """Returns the line of a verdict."""
     if failing:
         one = failing[0]
-        place = f"z {one['test']}" if one["test"] == "floor" else "triangle 0 leaf 0 0"
+        place = {"floor": "z 0.00", "gouge": "triangle 0 leaf 0 0", "fixture": f"box {one.get('box')} leaf 0 0"}[one["test"]]
         return f"rejected {cutters}{one['test']} move {one['move']} {place}"
     if left:
         return f"rejected left row {left[0]['row']} column {left[0]['column']} top {left[0]['top']}"

@@ -270,6 +270,16 @@ class Verify(unittest.TestCase):
         self.assertEqual(camtool.verify(*self.texts("plate", "uncut.ngc")), camtool.Verdict(False, "left", row=0, column=0, top=201))
         self.assertEqual(camtool.verify(*self.texts("plate", "program.ngc")), camtool.Verdict(True, most_left=0, moves=2, columns=9))
 
+    def test_names_the_box(self):
+        job, *texts = self.texts("plate", "program.ngc")
+        beside, near = (f"[{x}, 0, 400, 200, 400]" for x in (250, 249))
+        self.assertTrue(camtool.verify(job + f"keep_out = [{beside}]\n".encode(), *texts).accepted)
+        said = camtool.verify(job + f"keep_out = [{beside}, {near}]\n".encode(), *texts)
+        self.assertEqual((said.accepted, said.test, said.move, said.box, said.triangle), (False, "fixture", 0, 1, None))
+        held = job + f"keep_out = [{beside}]\nholder_radius = 200\nstickout = 150\n".encode()
+        said = camtool.verify(held, *texts)
+        self.assertEqual((said.accepted, said.test, said.move, said.box), (False, "holder-fixture", 0, 0))
+
     def refused(self, error, job=None, part=None, program=None):
         texts = [new or old for new, old in zip((job, part, program), self.texts("plate", "program.ngc"))]
         with self.assertRaises(error) as raised:
@@ -314,6 +324,10 @@ class Plan(unittest.TestCase):
         with self.assertRaises(error) as raised:
             camtool.plan(job, part)
         return raised.exception
+
+    def test_has_no_spindle(self):
+        job, part = self.texts("plate")
+        self.refused(camtool.JobMissing, job + b"spindle = true\n", part)
 
     def test_says_why_there_is_none(self):
         why = self.refused(camtool.Uncut, *self.texts("groove"))

@@ -47,6 +47,35 @@ def told(text, unit=None):
     return [(it.line, it.code, it.told, it.after) for it in found], is_taken, its_unit
 
 
+class Habits(unittest.TestCase):
+    def test_the_job_that_is_asked_with(self):
+        with tempfile.TemporaryDirectory() as folder:
+            asking = lint.Asking(folder, "hundredth", {"start": "anywhere", "clear": 900, "spindle": True})
+            job = texts.job_of(asking_job(folder))
+            self.assertEqual((job["start"], job["clear"], job["spindle"]), ("anywhere", 900, True))
+            asking.start_at_home()
+            job = texts.job_of(asking_job(folder))
+            self.assertEqual((job.get("start"), job["clear"], job["spindle"]), (None, 131_071, True))
+
+    def test_the_start_is_told_once_and_what_a_feed_lacks_is_put_in(self):
+        def answer(asking, copy):
+            if asking.habits.get("start") == "anywhere":
+                return Refusal("program", 2, "start", "")
+            if b"M3" not in copy:
+                return Refusal("program", 2, "no-spindle", "")
+            return None if b"F" in copy else Refusal("program", 2, "no-feed", "")
+
+        with mock.patch.object(lint.Asking, "refusal", answer):
+            found, is_taken, _ = lint.all_refused("a.ngc", b"G21 G90\nG1 X1\nM2\n", None, {"start": "anywhere", "clear": 9, "spindle": True})
+        self.assertEqual(([it.code for it in found], is_taken), (["start", "no-spindle", "no-feed"], True))
+
+
+def asking_job(folder):
+    """The bytes of the job that camtool is asked with."""
+    with open(os.path.join(folder, "job.toml"), "rb") as file:
+        return file.read()
+
+
 class Searching(unittest.TestCase):
     def test_nothing(self):
         self.assertEqual(told(b"G21 G90\nG1 X1\nM2\n"), ([], True, "hundredth"))
@@ -131,7 +160,7 @@ class Built(unittest.TestCase):
     def test_its_job_is_taken(self):
         for unit in ("hundredth", "thousandth"):
             with tempfile.TemporaryDirectory() as folder:
-                self.assertIsNone(lint.Asking(folder, unit).refusal(b"G21 G90\nG0 X1\nM2\n"))
+                self.assertIsNone(lint.Asking(folder, unit, {}).refusal(b"G21 G90\nG0 X1\nM2\n"))
                 self.assertEqual(sorted(os.listdir(folder)), ["job.toml", "part.stl", "program.ngc"])
 
 

@@ -100,12 +100,22 @@ class Jobs(test_cutters.InAFolder):
             ("half a unit", [TWO], ["--tool=flat 40.015"], dict(unit=None, radius=2001, overcut=5)),
             ("its own overcut", [TWO], ["--overcut=0.029"], dict(radius=300, overcut=2)),
             ("no overcut", [TWO], ["--overcut=0"], dict(radius=300, overcut=None)),
+            ("a vice", [TWO], ["--keep-out=-20.001,-5,-2,35,6.5", "--keep-out=42,-5,60,35,6.501", "--start=anywhere", "--spindle"], dict(
+                keep_out=[[-2001, -500, -200, 3500, 650], [4200, -500, 6000, 3500, 651]], start="anywhere", spindle=True, clear=1300)),
+            ("a plan in a vice", [], ["--tool=1", "--keep-out=-20,-5,-2,35,12"], dict(keep_out=[[-2000, -500, -200, 3500, 1200]], clear=1700, start=None, spindle=None)),
             ("a plan", [], ["--tool=1", "--layer=1"], dict(radius=300, overcut=None, area=[-300, -300, 4300, 3300], layer=100, rough_stock=30, max_cut=130, raster=50, lift=5, home=[0, 0], clear=1301)),
         ):
             with self.subTest(name):
                 keys, _, _ = self.made(*words, programs_=programs_)
                 self.assertEqual({it: keys.get(it) for it in wanted}, wanted)
                 self.check_columns(keys)
+
+    def test_a_box_over_the_programs(self):
+        _, _, printed = self.made("--keep-out=-20,-5,-2,35,13.5", programs_=[TWO])
+        self.assertIn("guessed: clear = 1850: 18.50 mm, 5 mm over the stock and what stands on the table; no Z of the programs is over it", printed)
+        for words in (["--keep-out=1,2,3,4"], ["--keep-out=3,2,1,4,5"], ["--spindle"]):
+            status, _, errors = ended(new.main, [self.part, "--tool=flat 6", *words])
+            self.assertEqual((status, errors != ""), (2, True))
 
     def check_columns(self, keys):
         x0, y0, x1, y1 = keys["area"]

@@ -8,7 +8,7 @@ import unittest
 from unittest import mock
 
 import made
-from camtool import page, page_findings, page_map, page_path, page_read, texts
+from camtool import page, page_findings, page_map, page_path, page_read, page_view, texts
 from camtool.page_solid import Near, Shape, hit_at, hit_of, hit_on, nearest_in, steepness_of
 from camtool.texts import Move
 
@@ -231,6 +231,37 @@ class Page(made.Folder):
         self.assertIn("9 feeds and 9 rapids, lines 9 to 50, in 9 stretches", told)
         self.assertEqual(len(data["findings"][0]["moves"]), 18)
         self.assertEqual(data["views"][0]["part"][-1], 500)
+
+    def test_a_path_into_a_box_is_told_by_the_box(self):
+        self.store("job.toml", made.JOB + "keep_out = [[5000, 0, 5100, 800, 500], [-200, 350, -100, 900, 450]]\n")
+        shown, line = self.made_of(made.program("4.40"))
+        data = json.loads(shown.data)
+        told = " ".join(shown.said)
+        self.assertEqual(line.split()[:2] + line.split()[4:6], ["rejected", "fixture", "box", "1"])
+        self.assertIn("Cutter into box 1 of", told)
+        self.assertIn("Lift the move until the cutter is over Z4.50, or lead it round the box.", told)
+        self.assertEqual(data["job"]["keep_out"][0], [5000, 0, 5100, 800, 500])
+        self.assertTrue(any(it["boxes"] for it in data["views"]))
+        self.assertIn("What stands on the table beside the boxes", self.read("page.html"))
+
+    def test_a_line_that_names_a_box(self):
+        self.store("job.toml", made.JOB + "keep_out = [[-200, 350, -100, 900, 450]]\n")
+        with mock.patch("camtool.programs.is_built", return_value=False):
+            shown, line = self.made_of(made.program("4.40"))
+        self.assertIn("Cutter into box 0 of", " ".join(shown.said), line)
+
+    def test_how_far_a_holder_comes_into_a_box(self):
+        job = {"cutter": "flat", "radius": 100, "holder_radius": 300, "stickout": 200, "keep_out": [[500, -500, 900, 500, 500]]}
+        item = page_read.Item(0, "holder-fixture", 0, 1, "", None, None, None, None, 0)
+        found = page_findings.measured_box(job, item, Move(1, "feed", (0, 0, 240), (250, 0, 240)))
+        self.assertEqual((found.way, round(found.amount), found.hit.tip), ("side", 50, (250, 0, 240)))
+        found = page_findings.measured_box(job, item, Move(1, "feed", (400, 0, 400), (400, 0, 270)))
+        self.assertEqual((found.way, round(found.amount)), ("deep", 30))
+
+    def test_where_a_view_cuts_a_box(self):
+        job = {"keep_out": [[0, 0, 100, 50, 7], [0, 60, 10, 70, 8]]}
+        self.assertEqual(page_view.boxes_along(job, (50, 20), (1.0, 0.0), 300), [[-50, 50, 7]])
+        self.assertEqual(page_view.boxes_along(job, (5, 20), (0.0, 1.0), 45), [[-20, 30, 7], [40, 45, 8]])
 
     def test_a_path_too_deep_is_told_by_its_lift(self):
         shown, _ = self.made_of(made.program().replace("Z2.00", "Z1.80"))

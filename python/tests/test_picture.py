@@ -59,6 +59,19 @@ class Picture(made.Folder):
         self.assertIn("left too high", " ".join(self.texts_of(root)))
         self.assertEqual(len(re.findall("<circle[^>]*purple", text)), 1)
 
+    def test_boxes_are_drawn_and_the_picture_is_no_wider_than_it_takes(self):
+        usual = self.drawn()[0].get("viewBox")
+        self.store("job.toml", made.JOB + "keep_out = [[-300, 0, -150, 800, 450], [9000, 0, 9900, 800, 100]]\n")
+        marks = Marks()
+        marks.boxes = [0]
+        root, text = self.drawn(marks)
+        boxes = [it.get("stroke") for it in root.iter("{http://www.w3.org/2000/svg}polygon") if it.get("fill") == "#b9935a"]
+        self.assertEqual(boxes, ["#c5161d", "#6b4a1f"])
+        self.assertIn("what stands on the machine (keep_out)", " ".join(self.texts_of(root)))
+        self.assertNotEqual(root.get("viewBox"), usual)
+        self.assertIn(">X12<", text)
+        self.assertNotIn(">X20<", text)
+
     def test_numbers_on_the_axes(self):
         for number, wanted in ((0, "0"), (-0.0, "0"), (2.5, "2.5"), (10, "10"), (0.05, "0.05")):
             self.assertEqual(picture.number_of(number), wanted)

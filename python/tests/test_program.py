@@ -77,7 +77,8 @@ class Case(typing.NamedTuple):
     part_file: str
     job: dict
     triangles: array.array
-    # What the program keeps off the part: the job's cutter with its slack around it. Its tip is so far below the job's.
+    # What the program keeps off the triangles, which are the part's and those of the boxes that it is kept off: the job's
+    # cutter with its slack around it. Its tip is so far below the job's.
     tool: camtool.Tool
     below: int = 0
 
@@ -119,7 +120,13 @@ def case_of(job_file, part_file):
     slope = (job["rise"], job["run"]) if job["cutter"] == "cone" else ()
     snap = {"exact": 0, "nearest": 1}[job.get("snap", "nearest")]
     part = camtool.read_part(read(part_file), unit=places_of(job), snap=snap)
-    return Case(job_file, part_file, job, part.triangles, cutter(job["radius"] + slack, *slope, holder=holder), below)
+    triangles = part.triangles + array.array("i", [number for box in job.get("keep_out", []) for number in faces_of(*box)])
+    return Case(job_file, part_file, job, triangles, cutter(job["radius"] + slack, *slope, holder=holder), below)
+
+
+def faces_of(x0, y0, x1, y1, z):
+    """The two triangles of a box's upper face."""
+    return x0, y0, z, x1, y0, z, x1, y1, z, x0, y0, z, x1, y1, z, x0, y1, z
 
 
 def examples():
@@ -239,6 +246,8 @@ class Compared(unittest.TestCase):
                 self.assertEqual((8, line), (status, said), case.job_file)
             except camtool.TooManyMoves:
                 self.assertEqual((9, line), (status, ["over", "moves"]), case.job_file)
+            except camtool.JobMissing:
+                self.assertEqual((4, line), (status, ["refused", "job", "missing", "feed"]), case.job_file)
             else:
                 self.assertEqual((0, "planned"), (status, line[0]), case.job_file)
                 self.assertEqual(program, read(stored), case.job_file)
@@ -274,7 +283,7 @@ def verdict_line(job_file, part_file, program_file):
         words += ["overcut", length(margins[0]), "slack", length(margins[1])] if any(margins) else []
         return [str(word) for word in words]
     words = ["rejected", verdict.test]
-    for name in ("move", "triangle", "row", "column"):
+    for name in ("move", "triangle", "box", "row", "column"):
         number = getattr(verdict, name)
         words += [name, str(number)] if number is not None else []
     words += ["leaf", *map(str, verdict.leaf)] if verdict.leaf is not None else []

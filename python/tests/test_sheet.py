@@ -72,6 +72,14 @@ class Sheet(made.Folder):
         for wanted in ("! The program has no G61", "! M5 on line 4 before the first cut", "! No F before the first cut", "T7: flat"):
             self.assertTrue(wanted in said, (wanted, said))
 
+    def test_boxes_start_and_spindle_of_the_job(self):
+        self.store("job.toml", made.JOB + 'keep_out = [[-900, 0, -500, 800, 450], [-900, -900, -500, -800, 650]]\nstart = "anywhere"\nspindle = true\n')
+        _, said, _ = self.text_of(made.program())
+        for wanted in (
+                "All that stands on the table lies in these boxes", "Box 0: X-9.00 Y0.00 to X-5.00 Y8.00, up to Z4.50. Measured", "! The job has no holder",
+                "rapids go sideways under the top of stock and boxes, the first on line", "From any place: line 5 brings the tip straight up or down to Z6.00", "Each feed was judged to have a spindle"):
+            self.assertTrue(wanted in said, (wanted, said))
+
     def test_a_page_for_each_program_of_a_list(self):
         rows = made.ROWS.split("G0 Z6.00\n")
         for name, some in (("one.ngc", rows[:6]), ("two.ngc", ["", *rows[6:]])):

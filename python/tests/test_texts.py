@@ -1,9 +1,11 @@
 """Tests of the readers of jobs, lists, parts and programs."""
 import unittest
+from unittest import mock
 
 from camtool import texts
 
 JOB = b'unit = "thousandth"\nhome = [1, # 3\n -2]\nclear = 3_000\narea = [0, 0, 0x10, +10] # mm\n'
+MACHINE = b"keep_out = [[0, 0, 1, 1, -5], # a clamp\n [2, 2, 3, 3, 4]]\nlevels = []\nstart = 'anywhere'\nspindle = true\n"
 
 
 class Lengths(unittest.TestCase):
@@ -28,6 +30,13 @@ class Documents(unittest.TestCase):
             texts.tomllib = usual
         self.assertEqual(texts.start_of(wanted), (1, -2, 3000))
 
+    def test_fixtures_and_truth_values(self):
+        wanted = {"keep_out": [[0, 0, 1, 1, -5], [2, 2, 3, 3, 4]], "levels": [], "start": "anywhere", "spindle": True}
+        for reader in (texts.tomllib, None):
+            with mock.patch.object(texts, "tomllib", reader):
+                self.assertEqual(texts.job_of(MACHINE), wanted)
+                self.assertEqual(texts.job_of(texts.job_text(wanted).encode()), wanted)
+
     def test_lists(self):
         text = b'[[steps]]\nprogram = "a.ngc"\nradius = 3\n[[steps]]\nprogram = \'b.ngc\'\nradius = 4\n'
         usual = texts.tomllib
@@ -46,6 +55,16 @@ class Programs(unittest.TestCase):
         moves = self.moves(b"%\nN10 G21 G90 (G1 X9)\ng0 x 1.5 ; Y2\nZ2\nG01 y-1.00\nM2\nX3\n")
         self.assertEqual([(it.line, it.kind, it.end) for it in moves],
                          [(3, "rapid", (150, 0, 500)), (4, "rapid", (150, 0, 200)), (5, "feed", (150, -100, 200))])
+
+    def test_a_start_from_anywhere(self):
+        self.assertIsNone(texts.start_of({"home": [0, 0], "clear": 9, "start": "anywhere"}))
+        moves = texts.moves_of(b"G21 G90 G0 Z5\nX1 Y2\nG1 Z3\nM2\n", None, texts.Grid({}))
+        place = (100, 200, 500)
+        self.assertEqual([(it.line, it.start, it.end) for it in moves], [(1, place, place), (2, place, place), (3, place, (100, 200, 300))])
+        self.assertEqual(texts.moves_of(b"G21 G90 G0 Z5\nM2\n", None, texts.Grid({})), [])
+
+    def test_the_upper_face_of_a_box(self):
+        self.assertEqual(texts.faces_of([1, 2, 3, 4, 5]), [((1, 2, 5), (3, 2, 5), (3, 4, 5)), ((1, 2, 5), (3, 4, 5), (1, 4, 5))])
 
     def test_g80_ends_the_mode(self):
         self.assertEqual(len(self.moves(b"G1 X1\nG80\nX2\n")), 1)

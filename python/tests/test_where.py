@@ -72,6 +72,27 @@ class Shown(unittest.TestCase):
         _, said = self.shown("accepted moves 2 columns 9 left 0.03 band 0.00 allowance 0.03 overcut 0.08 slack 0.03", self.names(job=job))
         self.assertIn("the tip may be 0.03 mm off its place\nthe part may be cut by 0.08 mm", "\n".join(said))
 
+    def test_boxes(self):
+        with open(os.path.join(PLATE, "job.toml"), "rb") as file:
+            job = file.read() + b"keep_out = [[300, 0, 400, 200, 250], [0, 0, 100, 100, 300]]\nstart = 'anywhere'\nspindle = true\n"
+        for test, tool in (("fixture", "the tool"), ("holder-fixture", "the holder")):
+            status, said = self.shown(f"rejected {test} move 1 box 1 leaf 1 1", self.names(job=job, program=b"G21 G90\nG0 Z4\nX1 Y1\nM2\n"))
+            self.assertEqual(status, 0, said)
+            text = "\n".join(said)
+            self.assertIn("X0.00 Y0.00 to X1.00 Y1.00, from below up to Z3.00", text)
+            self.assertIn(f"lift the move until {tool} is over that height", text)
+        self.assertEqual(self.shown("rejected fixture move 1 box 2 leaf 1 1", self.names(job=job, program=b"G21 G90\nG0 Z4\nX1 Y1\nM2\n"))[0], 2)
+        _, said = self.shown("accepted moves 2 columns 9 left 0.00 band 0.00 allowance 0.00", self.names(job=job, program=b"G21 G90\nG0 Z4\nX1 Y1\nM2\n"))
+        for wanted in ("the cutter comes into none of the 2 boxes of `keep_out`", "it may start from anywhere", "no line feeds before M3 or M4"):
+            self.assertIn(wanted, "\n".join(said))
+
+    def test_refusals_of_the_new_keys(self):
+        for line, wanted in (
+                ("refused job missing feed", "plan by a copy of the job without `spindle`"), ("refused job range keep_out", "at most 64"),
+                ("refused job kind spindle", "true or false, without quotes"), ("refused job relation keep_out clear", "raise `clear` over clamps and vice"),
+                ("refused program line 2 start", "G0 with Z alone"), ("refused program line 2 no-spindle", "the spindle doesn't turn"), ("refused program line 2 no-feed", "an F over 0")):
+            self.assertIn(wanted, self.last(line, self.names()))
+
     def test_an_acceptance_of_a_list(self):
         steps = f"[[steps]]\nprogram = '{PLATE}/program.ngc'\nradius = 150\ncutter = 'flat'\n".encode()
         status, said = self.shown("accepted files 1 moves 2 columns 9 left 0.00", self.names(list=steps))

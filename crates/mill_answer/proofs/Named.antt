@@ -9,7 +9,7 @@ use Rattle.mill_verify.specs.Verdicts.{IsRejectionOn, IsVerdict, NamesLeaf}
 use Rattle.mill_verify.specs.declared.verdict.Verdict.{Verdict}
 use Rattle.mill_verify.specs.declared.verdict.Verdict.TheVariants.{Accept, Reject}
 use Rattle.mill_verify.specs.declared.verdict.Reason.{Reason}
-use Rattle.mill_verify.specs.declared.verdict.Reason.TheVariants.{Floor, Gouge, Holder, Rapid, Cut, HolderStock, Left}
+use Rattle.mill_verify.specs.declared.verdict.Reason.TheVariants.{Floor, Gouge, Holder, Fixture, HolderFixture, Rapid, Cut, HolderStock, Left}
 use Rattle.mill_answer.specs.Verify.{IsNamed, IsSafe, NamesMove}
 
 module _ (job : JobFields) (part : List Tri) (moves : List Move) where
@@ -39,6 +39,8 @@ pub move_there : (job : JobFields) (part : List Tri) (start : Stock) (moves : Li
 move_there job part start moves (Floor k) r = r.there
 move_there job part start moves (Gouge k t leaf) r = tt
 move_there job part start moves (Holder k t leaf) r = tt
+move_there job part start moves (Fixture k b leaf) r = tt
+move_there job part start moves (HolderFixture k b leaf) r = tt
 move_there job part start moves (Rapid k j i leaf) r = tt
 move_there job part start moves (Cut k j i leaf) r = tt
 move_there job part start moves (HolderStock k j i leaf) r = tt

@@ -11,11 +11,12 @@ use Rattle.mill_job.specs.declared.fields.JobFields.{JobFields}
 use Rattle.mill_dexel.specs.Tops.{uncut}
 use Rattle.mill_dexel.specs.Turns.{move_at}
 use Rattle.mill_verify.specs.Claims.{CutsSafely}
+use Rattle.mill_verify.specs.Starts.{StartsSafely}
 use Rattle.mill_verify.specs.Verdicts.{IsVerdict, NamesLeaf}
 use Rattle.mill_verify.specs.declared.verdict.Verdict.{Verdict}
 use Rattle.mill_verify.specs.declared.verdict.Verdict.TheVariants.{Accept, Reject}
 use Rattle.mill_verify.specs.declared.verdict.Reason.{Reason}
-use Rattle.mill_verify.specs.declared.verdict.Reason.TheVariants.{Floor, Gouge, Holder, Rapid as RapidCut, Cut, HolderStock, Left}
+use Rattle.mill_verify.specs.declared.verdict.Reason.TheVariants.{Floor, Gouge, Holder, Fixture, HolderFixture, Rapid as RapidCut, Cut, HolderStock, Left}
 use Rattle.mill_answer.specs.Lines.{line}
 use Rattle.mill_load.specs.declared.file.File.{File}
 use Rattle.mill_load.specs.declared.file.File.TheVariants.{Program as ProgramFile}
@@ -91,7 +92,7 @@ abbrev pub IsSafe : JobFields → List Tri → List Move → Verdict → Type 0
 IsSafe job part moves (Accept count columns left) = CutsSafely job part moves
 IsSafe job part moves (Reject reason) = Unit {0}
 
--- a leaf that a rejection names is one of the last of its move, with a reach of at most 2, and the triangle that is named, or the point at which the column that is named is tested, blocks it, or on it the holder
+-- a leaf that a rejection names is one of the last of its move, with a reach of at most 2, and the triangle that is named, or one of the upper face of the fixture that is named, or the point at which the column that is named is tested, blocks it, or on it the holder
 abbrev pub IsNamed : JobFields → List Tri → List Move → Verdict → Type 0
 IsNamed job part moves (Accept count columns left) = Unit {0}
 IsNamed job part moves (Reject reason) = NamesLeaf job part (uncut job) moves reason
@@ -105,7 +106,8 @@ pub record Judges (texts : Texts) (job : JobFields) (part : List Tri) (moves : L
   pub safe : IsSafe job part moves verdict
   pub named : IsNamed job part moves verdict
 
--- each file, if it holds what the reads gave, reads as this job, this part and these moves, which are in their ranges, and the moves are safe
+-- each file, if it holds what the reads gave, reads as this job, this part and these moves, which are in their ranges, and the moves are safe; wherever the tool's tip is before them, straight up or down
+-- and across it comes safely to the place where they begin, if it is free where it stands and starts at or over the clear height, or is raised
 pub record AcceptsSafely (call : Call) (files : Files) : Type 0 where
   pub job : JobFields
   pub part : List Tri
@@ -113,6 +115,7 @@ pub record AcceptsSafely (call : Call) (files : Files) : Type 0 where
   pub all_read : (contents : List ℕ → Option (List ℕ)) → HoldsReads contents call → Reads (texts_of contents files) job part moves
   pub job_ok : IsJob job
   pub moves_ok : AreMoves job moves
+  pub start : StartsSafely job part moves_ok.follow.from
   pub safe : CutsSafely job part moves
 
 -- ---- how it is shown
@@ -125,9 +128,9 @@ verdict_status (Reject reason) = 3
 abbrev pub leaf_words : Leaf → List (List ℕ)
 leaf_words leaf = codes "leaf" ∷ decimal leaf.d ∷ decimal leaf.k ∷ []
 
--- the words of a move on which a triangle stops the cutter or the holder, as this word says
-abbrev pub triangle_words : List ℕ → ℕ → ℕ → Leaf → List (List ℕ)
-triangle_words word k t leaf = word ∷ codes "move" ∷ decimal k ∷ codes "triangle" ∷ decimal t ∷ leaf_words leaf
+-- the words of a move on which a triangle or a fixture stops the cutter or the holder, as the first word says; the second says which of the two it is
+abbrev pub obstacle_words : List ℕ → List ℕ → ℕ → ℕ → Leaf → List (List ℕ)
+obstacle_words word name k number leaf = word ∷ codes "move" ∷ decimal k ∷ name ∷ decimal number ∷ leaf_words leaf
 
 -- the words of a move on which a column stops the cutter or the holder, as this word says
 abbrev pub blocked_words : List ℕ → ℕ → ℕ → ℕ → Leaf → List (List ℕ)
@@ -136,8 +139,10 @@ blocked_words word k j i leaf = word ∷ codes "move" ∷ decimal k ∷ codes "r
 -- the words of a reason, with lengths in this unit; a floor's have the height of the move's end
 abbrev pub reason_words : LengthUnit → List Move → Reason → List (List ℕ)
 reason_words unit moves (Floor k) = codes "floor" ∷ codes "move" ∷ decimal k ∷ codes "z" ∷ canonical unit (move_at moves k).to.z ∷ []
-reason_words unit moves (Gouge k t leaf) = triangle_words (codes "gouge") k t leaf
-reason_words unit moves (Holder k t leaf) = triangle_words (codes "holder") k t leaf
+reason_words unit moves (Gouge k t leaf) = obstacle_words (codes "gouge") (codes "triangle") k t leaf
+reason_words unit moves (Holder k t leaf) = obstacle_words (codes "holder") (codes "triangle") k t leaf
+reason_words unit moves (Fixture k b leaf) = obstacle_words (codes "fixture") (codes "box") k b leaf
+reason_words unit moves (HolderFixture k b leaf) = obstacle_words (codes "holder-fixture") (codes "box") k b leaf
 reason_words unit moves (RapidCut k j i leaf) = blocked_words (codes "rapid") k j i leaf
 reason_words unit moves (Cut k j i leaf) = blocked_words (codes "cut") k j i leaf
 reason_words unit moves (HolderStock k j i leaf) = blocked_words (codes "holder-stock") k j i leaf

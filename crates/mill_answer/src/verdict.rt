@@ -2,7 +2,7 @@
 ghost use Rattle.std.specs.Prelude.{◌≡◌, ◌<◌, ◌++◌, [], length, map, IfOk};
 ghost use Rattle.mill_answer.specs.Lines.{line, word_text};
 ghost use Rattle.mill_answer.specs.Statuses.{status_code};
-ghost use Rattle.mill_answer.specs.Verify.{NamesMove, NamesVerdictMove, blocked_words, reason_words, triangle_words, verdict_line, verdict_status};
+ghost use Rattle.mill_answer.specs.Verify.{NamesMove, NamesVerdictMove, blocked_words, obstacle_words, reason_words, verdict_line, verdict_status};
 
 use crate::line::line_of;
 use crate::print::{line_of_column, line_with_margins};
@@ -93,10 +93,16 @@ pub fn line_of_reason(
     match reason {
         Reason::Floor { at } => line_of_floor(alloc, start, moves, at, unit),
         Reason::Gouge { at, tri, leaf } => {
-            line_of_triangle(alloc, start, b"gouge", at, tri, leaf)
+            line_of_obstacle(alloc, start, b"gouge", b"triangle", at, tri, leaf)
         }
         Reason::Holder { at, tri, leaf } => {
-            line_of_triangle(alloc, start, b"holder", at, tri, leaf)
+            line_of_obstacle(alloc, start, b"holder", b"triangle", at, tri, leaf)
+        }
+        Reason::Fixture { at, fixture, leaf } => {
+            line_of_obstacle(alloc, start, b"fixture", b"box", at, fixture, leaf)
+        }
+        Reason::HolderFixture { at, fixture, leaf } => {
+            line_of_obstacle(alloc, start, b"holder-fixture", b"box", at, fixture, leaf)
         }
         Reason::Rapid { at, row, col, leaf } => {
             line_of_blocked(alloc, start, b"rapid", at, row, col, leaf)
@@ -137,17 +143,19 @@ fn line_of_floor(
     )
 }
 
-// The line of a move on which a triangle stops the cutter or the holder, as `what` says.
-fn line_of_triangle(
+// The line of a move on which a triangle or a fixture, as `name` says, stops the cutter or the
+// holder, as `what` says.
+fn line_of_obstacle<'x>(
     alloc: Global,
     start: &[Word<'_>],
-    what: &[u8],
+    what: &'x [u8],
+    name: &'x [u8],
     at: u64,
-    tri: u32,
+    number: u32,
     leaf: Leaf,
 ) -> Result<Vec<u8>, WantOfMemory>
     ensures { IfOk result (λ made. made.items ≡
-        line (map word_text start.now ++ triangle_words what.now at tri leaf)) }
+        line (map word_text start.now ++ obstacle_words what.now name.now at number leaf)) }
 {
     line_of(
         alloc,
@@ -156,8 +164,8 @@ fn line_of_triangle(
             Text(what),
             Text(b"move"),
             Number(at),
-            Text(b"triangle"),
-            Number(u64::from(tri)),
+            Text(name),
+            Number(u64::from(number)),
             Text(b"leaf"),
             Number(u64::from(leaf.d)),
             Number(leaf.k),

@@ -1,6 +1,6 @@
 -- Lines that are only a move: what their words say, and what they do.
 use Rattle.std.proofs.Common.{◌≡◌, ℕ, ℤ, ◌+◌, ◌*◌, ◌<◌, ◌≤◌, List, [], ◌∷◌, ◌++◌, length, get_or, arith, Bool, true, false, Option, Some, None, IfSome, is_some, unwrap_or, Ok, refl, sym, ap, ◌∙◌, inl, inr, ◌⊎◌, append_assoc, append-nil, length-append}
-use Rattle.std.specs.Prelude.{nat_lt}
+use Rattle.std.specs.Prelude.{nat_lt, if◌then◌else◌}
 use Rattle.std.specs.List.{list_any}
 use Rattle.std.proofs.lemmas.List.Folds.{list_any-append}
 use Rattle.std.proofs.lemmas.Bool.{false≢true}
@@ -23,16 +23,18 @@ use Rattle.mill_block.specs.declared.groups.Group.{Group}
 use Rattle.mill_block.specs.declared.plain_move.PlainLine.{PlainLine}
 use Rattle.mill_block.specs.declared.plain_move.PlainMove.{PlainMove}
 use Rattle.mill_block.specs.declared.profile.Entry.{Entry}
-use Rattle.mill_block.specs.declared.profile.Effect.TheVariants.{Nothing, Motion, X, Y, Z}
+use Rattle.mill_block.specs.declared.profile.Effect.TheVariants.{Rate, Motion, X, Y, Z}
 use Rattle.mill_block.specs.declared.profile.Mode.TheVariants.{On}
 use Rattle.mill_block.specs.declared.progress.Progress.{Progress}
 use Rattle.mill_block.specs.declared.said.Said.{Said}
+use Rattle.mill_block.specs.Drives.{driven, driven_or_fault}
+use Rattle.mill_block.specs.declared.progress.Drive.{Drive}
 use Rattle.mill_block.specs.Motion.{acted, coordinate, made_move, moved, target}
-use Rattle.mill_block.specs.Numbers.{axis_units, signed, whole_of}
+use Rattle.mill_block.specs.Numbers.{axis_units, is_over_zero, signed, whole_of}
 use Rattle.mill_block.specs.Profile.{entry_in, entry_of, g_entry, is_same_group, is_tool, may_repeat, row}
 use Rattle.mill_block.specs.Lines.{after_line, after_words, has_frame, is_percent, line_begun}
 use Rattle.mill_block.specs.Said.{after_entry, after_word, group_of, has_axis, noted, nothing_said, said_from}
-use Rattle.mill_block.specs.inner.PlainMoves.{AreFree, Goes, IsAxis, IsCapital, IsEnd, IsFree, IsMotion, IsReady, LineMovesTo, MovesTo, ReadTo, Says, TakenTo, made_plain, one_if, words_in}
+use Rattle.mill_block.specs.inner.PlainMoves.{AreFree, Goes, HasDrive, IsAxis, IsCapital, IsEnd, IsFree, IsMotion, IsReady, LineMovesTo, MovesTo, ReadTo, Says, TakenTo, made_plain, one_if, rate_of, words_in}
 use Rattle.mill_block.proofs.SaidLemmas.{row-x, row-y, row-z, said_from-end, said_from-first, said_from-next, said_from-none}
 
 -- ---- numbers
@@ -129,7 +131,7 @@ goes-x unit line positioned w s plain x letter new axis says =
     record {
       said = record s { groups = s.groups ++ g ∷ []; x = Some w.num };
       taken = taken-by line positioned s w (row 0 X) g (row-x w letter) (rw letter refl) refl refl (says.free.x (rw new refl));
-      says = record { x = axis; y = says.y; z = says.z; mode = says.mode; millimetres = says.millimetres; absolute = says.absolute; ends = says.ends; free = all-free plain (record plain { x = x }) s.groups g left says.free };
+      says = record { x = axis; y = says.y; z = says.z; mode = says.mode; millimetres = says.millimetres; absolute = says.absolute; ends = says.ends; changes = says.changes; spindle = says.spindle; speed = says.speed; rate = says.rate; free = all-free plain (record plain { x = x }) s.groups g left says.free };
     }
 
 pub goes-y : (unit : LengthUnit) (line : ℕ) (positioned : Bool) (w : Word) (s : Said) (plain : PlainLine) (y : Option ℤ) → w.letter ≡ 89 → plain.y ≡ None
@@ -140,7 +142,7 @@ goes-y unit line positioned w s plain y letter new axis says =
     record {
       said = record s { groups = s.groups ++ g ∷ []; y = Some w.num };
       taken = taken-by line positioned s w (row 0 Y) g (row-y w letter) (rw letter refl) refl refl (says.free.y (rw new refl));
-      says = record { x = says.x; y = axis; z = says.z; mode = says.mode; millimetres = says.millimetres; absolute = says.absolute; ends = says.ends; free = all-free plain (record plain { y = y }) s.groups g left says.free };
+      says = record { x = says.x; y = axis; z = says.z; mode = says.mode; millimetres = says.millimetres; absolute = says.absolute; ends = says.ends; changes = says.changes; spindle = says.spindle; speed = says.speed; rate = says.rate; free = all-free plain (record plain { y = y }) s.groups g left says.free };
     }
 
 pub goes-z : (unit : LengthUnit) (line : ℕ) (positioned : Bool) (w : Word) (s : Said) (plain : PlainLine) (z : Option ℤ) → w.letter ≡ 90 → plain.z ≡ None
@@ -151,11 +153,11 @@ goes-z unit line positioned w s plain z letter new axis says =
     record {
       said = record s { groups = s.groups ++ g ∷ []; z = Some w.num };
       taken = taken-by line positioned s w (row 0 Z) g (row-z w letter) (rw letter refl) refl refl (says.free.z (rw new refl));
-      says = record { x = says.x; y = says.y; z = axis; mode = says.mode; millimetres = says.millimetres; absolute = says.absolute; ends = says.ends; free = all-free plain (record plain { z = z }) s.groups g left says.free };
+      says = record { x = says.x; y = says.y; z = axis; mode = says.mode; millimetres = says.millimetres; absolute = says.absolute; ends = says.ends; changes = says.changes; spindle = says.spindle; speed = says.speed; rate = says.rate; free = all-free plain (record plain { z = z }) s.groups g left says.free };
     }
 
 -- the rows of the other letters, 70 and 71
-row-feed : (w : Word) → w.letter ≡ 70 → entry_of w ≡ Some (row 0 Nothing)
+row-feed : (w : Word) → w.letter ≡ 70 → entry_of w ≡ Some (row 0 Rate)
 unfolding entry_of
 row-feed w e = rw e refl
 
@@ -164,14 +166,14 @@ unfolding entry_of
 row-motion w kind e h = rw (e, h) refl
 
 pub goes-feed : (unit : LengthUnit) (line : ℕ) (positioned : Bool) (w : Word) (s : Said) (plain : PlainLine) (had : Bool) → w.letter ≡ 70 → plain.feed ≡ false
-    → had ≡ true → Says unit line plain s → Goes unit line positioned w s (record plain { feed = had })
-goes-feed unit line positioned w s plain had letter new has says =
+    → had ≡ true → is_over_zero w.num ≡ true → Says unit line plain s → Goes unit line positioned w s (record plain { feed = had })
+goes-feed unit line positioned w s plain had letter new has over says =
     let g : Group = record { letter = 70; number = 0 } in
     let left : AllLeft plain (record plain { feed = had }) g = record { x = inr (refl, refl); y = inr (refl, refl); z = inr (refl, refl); motion = inr (refl, refl); feed = inl has } in
     record {
-      said = record s { groups = s.groups ++ g ∷ [] };
-      taken = taken-by line positioned s w (row 0 Nothing) g (row-feed w letter) (rw letter refl) refl refl (says.free.feed new);
-      says = record { x = says.x; y = says.y; z = says.z; mode = says.mode; millimetres = says.millimetres; absolute = says.absolute; ends = says.ends; free = all-free plain (record plain { feed = had }) s.groups g left says.free };
+      said = record s { groups = s.groups ++ g ∷ []; rate = Some (is_over_zero w.num) };
+      taken = taken-by line positioned s w (row 0 Rate) g (row-feed w letter) (rw letter refl) refl refl (says.free.feed new);
+      says = record { x = says.x; y = says.y; z = says.z; mode = says.mode; millimetres = says.millimetres; absolute = says.absolute; ends = says.ends; changes = says.changes; spindle = says.spindle; speed = says.speed; rate = rw (has, over) refl; free = all-free plain (record plain { feed = had }) s.groups g left says.free };
     }
 
 pub goes-motion : (unit : LengthUnit) (line : ℕ) (positioned : Bool) (w : Word) (s : Said) (plain : PlainLine) (kind : Option Kind) → w.letter ≡ 71 → plain.kind ≡ None
@@ -183,7 +185,7 @@ goes-motion unit line positioned w s plain (Some kind) letter new motion says =
     record {
       said = record s { groups = s.groups ++ g ∷ []; mode = Some (On kind) };
       taken = taken-by line positioned s w (row 1 (Motion (On kind))) g (row-motion w kind letter motion) (rw letter refl) refl refl (says.free.motion (rw new refl));
-      says = record { x = says.x; y = says.y; z = says.z; mode = refl; millimetres = says.millimetres; absolute = says.absolute; ends = says.ends; free = all-free plain (record plain { kind = Some kind }) s.groups g left says.free };
+      says = record { x = says.x; y = says.y; z = says.z; mode = refl; millimetres = says.millimetres; absolute = says.absolute; ends = says.ends; changes = says.changes; spindle = says.spindle; speed = says.speed; rate = says.rate; free = all-free plain (record plain { kind = Some kind }) s.groups g left says.free };
     }
 
 -- ---- the line's end
@@ -201,6 +203,19 @@ ends-within unit line here (Some units) (Some n) axis within = axis.within
 ends-within unit line here None (Some n) axis within = absurd axis
 ends-within unit line here (Some units) None axis within = absurd axis
 
+-- what a feed needs stays, where it is all there
+drive-same : (asked : Bool) (d : Drive) (s : Said) (feed : Bool) → s.changes ≡ false → s.spindle ≡ None → s.speed ≡ None → s.rate ≡ rate_of feed → HasDrive asked d
+    → (if asked then driven d s else d) ≡ d
+drive-same false d s feed changes spindle speed rate full = refl
+drive-same true d s true changes spindle speed rate full = rw (full, changes, spindle, speed, rate) refl
+drive-same true d s false changes spindle speed rate full = rw (full, changes, spindle, speed, rate) refl
+
+-- and no move lacks any of it
+drive-none : (asked : Bool) (kind : Kind) (d : Drive) (line : ℕ) → HasDrive asked d → driven_or_fault asked kind d line ≡ Ok tt
+drive-none false kind d line full = refl
+drive-none true Rapid d line full = refl
+drive-none true Feed d line full = rw full refl
+
 -- what the line says is its move
 acted-plain : (p : Progress) (s : Said) (plain : PlainLine) (m : PlainMove) → IsReady p → Says p.unit p.line plain s → IsEnd p plain m
     → acted p s ≡ made_move (record p { mode = On m.kind; ended = false }) m.kind m.to
@@ -214,8 +229,11 @@ acted-plain p s plain m ready says end =
       says.millimetres,
       says.absolute,
       says.ends,
+      drive-same p.rules.needs_spindle p.drive s plain.feed says.changes says.spindle says.speed says.rate ready.drive,
+      ready.place,
       ready.millimetres,
       ready.absolute,
+      drive-none p.rules.needs_spindle m.kind p.drive p.line ready.drive,
       ends-at p.unit p.line p.here.x plain.x s.x says.x,
       ends-at p.unit p.line p.here.y plain.y s.y says.y,
       ends-at p.unit p.line p.here.z plain.z s.z says.z,
@@ -231,6 +249,7 @@ moves-by : (p : Progress) (l : Line) (s : Said) (plain : PlainLine) (m : PlainMo
     → said_from p.line p.positioned nothing_said l.words ≡ Ok s → Says p.unit p.line plain s → IsEnd p plain m → MovesTo p l m
 moves-by p l s plain m slash ready here said says end = record {
   moves = after-plain p l s slash ready said ∙ acted-plain p s plain m ready says end;
+  place = ready.place;
   few = ready.few;
   in_range = rw end.to (record {
     x_ok = ends-within p.unit p.line p.here.x plain.x s.x says.x here.x_ok;
@@ -256,6 +275,10 @@ nothing-says unit line = record {
   millimetres = refl;
   absolute = refl;
   ends = refl;
+  changes = refl;
+  spindle = refl;
+  speed = refl;
+  rate = refl;
   free = record { x = λ _. refl; y = λ _. refl; z = λ _. refl; motion = λ _. refl; feed = λ _. refl };
 }
 
@@ -324,7 +347,7 @@ one-more-read p bytes place end n old new capital word takes more to =
 
 -- the line's number has no part in whether it is only a move
 ready-begun : (p : Progress) → IsReady p → IsReady (line_begun p)
-ready-begun p ready = record { few = ready.few; frame = ready.frame; millimetres = ready.millimetres; absolute = ready.absolute }
+ready-begun p ready = record { place = ready.place; drive = ready.drive; few = ready.few; frame = ready.frame; millimetres = ready.millimetres; absolute = ready.absolute }
 
 end-begun : (p : Progress) (plain : PlainLine) (m : PlainMove) → IsEnd p plain m → IsEnd (line_begun p) plain m
 end-begun p plain m end = record { some = end.some; mode = end.mode; to = end.to }
@@ -377,7 +400,7 @@ capital-of b (inr (inr (inr e))) = rw e (record { letter = refl; alphabetic = re
 
 -- so a line that is only a move, and not of the frame, makes it
 pub plain-line : (p q : Progress) (bytes : List ℕ) (m : PlainMove) (made : Move) → length bytes ≤ 256 → has_frame p.frame (is_percent bytes) ≡ false
-    → LineMovesTo (line_begun p) bytes m → made_plain (line_begun p) m ≡ Ok (q, Some made) → after_line p bytes ≡ Ok (q, Some made)
+    → LineMovesTo (line_begun p) bytes m → made_plain (line_begun p) m ≡ Ok (q, made ∷ []) → after_line p bytes ≡ Ok (q, made ∷ [])
 unfolding after_line
 plain-line p q bytes m made short other to makes =
     let fits : nat_lt 256 (length bytes) ≡ false = grind (arith, nat_tests) in

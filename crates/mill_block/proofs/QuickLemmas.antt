@@ -53,7 +53,7 @@ feed-read : (p : Progress) (bytes : List ℕ) (place : ℕ) (kind : Option Kind)
     → ReadTo p bytes place (in_order kind x y z) → ReadTo p bytes (length bytes) (record (in_order kind x y z) { feed = true })
 feed-read p bytes place kind x y z feed to =
     one-more-read p bytes place (length bytes) feed.num (in_order kind x y z) (record (in_order kind x y z) { feed = true }) (capital-of (get_or bytes place 0) (inr (inr (inr feed.letter_is)))) feed.word
-    (λ positioned s says. goes-feed p.unit p.line positioned (record { letter = get_or bytes place 0; num = feed.num }) s (in_order kind x y z) true feed.letter_is refl refl says)
+    (λ positioned s says. goes-feed p.unit p.line positioned (record { letter = get_or bytes place 0; num = feed.num }) s (in_order kind x y z) true feed.letter_is refl refl feed.over says)
     (more-feed (in_order kind x y z) true refl refl) to
 
 -- where they end with the line, that is its move

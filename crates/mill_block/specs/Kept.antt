@@ -1,38 +1,52 @@
 -- What a line keeps of the progress before it, and adds to the moves before it.
-use Rattle.std.specs.Prelude.{◌≡◌, ℕ, ◌+◌, ◌≤◌, List, ◌++◌, Option, Some, None, Ok}
+use Rattle.std.specs.Prelude.{◌≡◌, ℕ, ◌+◌, ◌≤◌, ◌≤ℤ◌, ◌⊎◌, List, [], ◌∷◌, ◌++◌, length, Result, Ok}
 use Rattle.mill_base.specs.declared.limits.TheConstants.{MAX_MOVES}
-use Rattle.mill_base.specs.Ranges.{IsInUnitRange}
+use Rattle.mill_base.specs.Motion.{Follow}
+use Rattle.mill_base.specs.Ranges.{IsInUnitRange, MovesInUnitRange}
 use Rattle.mill_base.specs.declared.motion.Move.{Move}
+use Rattle.mill_base.specs.declared.points.Pt3.{Pt3}
+use Rattle.mill_block.specs.declared.fault.NgcFault.{NgcFault}
 use Rattle.mill_block.specs.declared.progress.Progress.{Progress}
-use Rattle.mill_block.specs.Lines.{after_line, line_begun, made_list}
+use Rattle.mill_block.specs.declared.progress.Known.{Known}
+use Rattle.mill_block.specs.declared.progress.Known.TheVariants.{All}
+use Rattle.mill_block.specs.Lines.{after_line, line_begun}
+use Rattle.mill_block.specs.Motion.{known_of}
 
--- a line's move goes from the point before the line to the one behind it, and is one more of at most 1,000,000
-pub record MakesMove (old : Progress) (m : Move) (new : Progress) : Type 0 where
-  pub from_here : m.from ≡ old.here
-  pub to_here : m.to ≡ new.here
-  pub in_range : IsInUnitRange old.unit new.here
-  pub one_more : new.moves ≡ old.moves + 1
-  pub few : new.moves ≤ MAX_MOVES
+-- where the tool stands behind the moves
+abbrev pub end_of : Pt3 → List Move → Pt3
+end_of at [] = at
+end_of at (m ∷ moves) = end_of m.to moves
 
--- without a move the tool stays
-pub record MakesNone (old new : Progress) : Type 0 where
-  pub stays : new.here ≡ old.here
-  pub no_more : new.moves ≡ old.moves
+-- where a line's moves begin: at the point before the line, or where its place wasn't known, at the point behind it
+abbrev pub begins : Known → Pt3 → Pt3 → Pt3
+begins All before behind = before
+begins known before behind = behind
 
--- what a line keeps, with its move or without one
-abbrev pub KeepsMove : Progress → Option Move → Progress → Type 0
-KeepsMove old (Some m) new = MakesMove old m new
-KeepsMove old None new = MakesNone old new
+abbrev pub begin_of : Progress → Progress → Pt3
+begin_of old new = begins (known_of old) old.here new.here
 
--- the same, and the unit and the count of lines stay as they are
-pub record Keeps (old : Progress) (made : Option Move) (new : Progress) : Type 0 where
-  pub move_is : KeepsMove old made new
+-- a line's moves follow on from there to the point behind it, and are so many more of at most 1,000,000; they come only where the tool's place is known behind them, and it stays known; before it was, the tool gets no lower; the unit, what is asked beside and the count of lines stay as they are
+pub record Keeps (old : Progress) (made : List Move) (new : Progress) : Type 0 where
+  pub follow : Follow (begin_of old new) made
+  pub end : end_of (begin_of old new) made ≡ new.here
+  pub known : known_of old ≡ All → known_of new ≡ All
+  pub none : (known_of new ≡ All) ⊎ (made ≡ [])
+  pub rises : (known_of old ≡ All) ⊎ (old.here.z ≤ℤ new.here.z)
+  pub same_rules : new.rules ≡ old.rules
+  pub in_range : MovesInUnitRange old.unit made
+  pub here : IsInUnitRange old.unit new.here
+  pub count : new.moves ≡ old.moves + length made
+  pub few : old.moves ≤ MAX_MOVES → new.moves ≤ MAX_MOVES
   pub same_unit : new.unit ≡ old.unit
   pub same_line : new.line ≡ old.line
 
--- the next line is read, and its move added to these moves, if it makes one
-pub record AddsLine (old : Progress) (line : List ℕ) (moves : List Move) (new : Progress) (more : List Move) : Type 0 where
-  pub made : Option Move
-  pub told : after_line old line ≡ Ok (new, made)
-  pub added : more ≡ moves ++ made_list made
-  pub keeps : Keeps (line_begun old) made new
+-- what is told of a line comes to be: its moves are added to these
+pub record Adds (told_as : Result (Progress × List Move) NgcFault) (old : Progress) (moves : List Move) (new : Progress) (more : List Move) : Type 0 where
+  pub made : List Move
+  pub told : told_as ≡ Ok (new, made)
+  pub added : more ≡ moves ++ made
+  pub keeps : Keeps old made new
+
+-- the next line is read, and the moves that it makes are added to these moves
+abbrev pub AddsLine : Progress → List ℕ → List Move → Progress → List Move → Type 0
+AddsLine old line moves new more = Adds (after_line old line) (line_begun old) moves new more

@@ -13,13 +13,20 @@ use Rattle.mill_block.specs.declared.fault.NgcFault.TheVariants as fault
 use Rattle.mill_block.specs.declared.profile.Mode.TheVariants.{Off}
 use Rattle.mill_block.specs.declared.progress.Frame.{Frame}
 use Rattle.mill_block.specs.declared.progress.Frame.TheVariants.{Unknown, Framed, Plain}
+use Rattle.mill_block.specs.declared.progress.Known.TheVariants.{Nothing}
 use Rattle.mill_block.specs.declared.progress.Progress.{Progress}
+use Rattle.mill_block.specs.declared.rules.Rules.{Rules}
+use Rattle.mill_block.specs.Drives.{no_drive}
 use Rattle.mill_block.specs.Said.{◌>>=◌, said_by}
 use Rattle.mill_block.specs.Motion.{acted}
 
--- before the first line nothing is settled yet, and the tool stands at this point; coordinates are in this unit
-abbrev pub start_at : Pt3 → Unit → Progress
-start_at p unit = record { unit = unit; here = p; mode = Off; millimetres = false; absolute = false; positioned = false; frame = Unknown; ended = false; moves = 0; line = 0 }
+-- a reader asks nothing beside of a program
+abbrev pub no_rules : Rules
+no_rules = record { from_anywhere = false; needs_spindle = false }
+
+-- before the first line nothing is settled yet, and the tool stands at this point, or anywhere; coordinates are in this unit
+abbrev pub start_at : Pt3 → Unit → Rules → Progress
+start_at p unit rules = record { rules = rules; unit = unit; here = p; known = Nothing; drive = no_drive; mode = Off; millimetres = false; absolute = false; positioned = false; frame = Unknown; ended = false; moves = 0; line = 0 }
 
 -- ---- the frame
 
@@ -56,7 +63,7 @@ with_line p blank = record p { frame = frame_after p.frame blank }
 -- ---- a line
 
 -- what the words of a line do
-unfoldable pub after_words : Progress → Line → Result (Progress × Option Move) NgcFault
+unfoldable pub after_words : Progress → Line → Result (Progress × List Move) NgcFault
 after_words p l = said_by p.line p.positioned l >>= acted (with_line p (is_blank_line l))
 
 abbrev pub words_or_fault : ℕ → Result Line WordFault → Result Line NgcFault
@@ -67,17 +74,12 @@ words_or_fault line (Err f) = Err (fault.Word line f)
 abbrev pub line_begun : Progress → Progress
 line_begun p = record p { line = p.line + 1 }
 
-abbrev pub line_in : Progress → List ℕ → Result (Progress × Option Move) NgcFault
+abbrev pub line_in : Progress → List ℕ → Result (Progress × List Move) NgcFault
 line_in p line =
     if nat_lt 256 (length line) then Err (fault.LongLine p.line) else
-    (if has_frame p.frame (is_percent line) then Ok (with_percent p, None)
+    (if has_frame p.frame (is_percent line) then Ok (with_percent p, [])
     else words_or_fault p.line (line_of line) >>= after_words p)
 
--- what the next line does: the progress behind it, and its move, if it makes one
-unfoldable pub after_line : Progress → List ℕ → Result (Progress × Option Move) NgcFault
+-- what the next line does: the progress behind it, and the moves that it makes
+unfoldable pub after_line : Progress → List ℕ → Result (Progress × List Move) NgcFault
 after_line p line = line_in (line_begun p) line
-
--- the move of a line, if it makes one
-abbrev pub made_list : Option Move → List Move
-made_list None = []
-made_list (Some m) = m ∷ []

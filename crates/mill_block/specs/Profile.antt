@@ -7,7 +7,7 @@ use Rattle.mill_block.specs.declared.fault.NgcFault.TheVariants as fault
 use Rattle.mill_block.specs.declared.groups.Group.{Group}
 use Rattle.mill_block.specs.declared.profile.Entry.{Entry}
 use Rattle.mill_block.specs.declared.profile.Effect.{Effect}
-use Rattle.mill_block.specs.declared.profile.Effect.TheVariants.{Nothing, Motion, Absolute, Millimetres, End, Tool, X, Y, Z}
+use Rattle.mill_block.specs.declared.profile.Effect.TheVariants.{Nothing, Motion, Absolute, Millimetres, End, Tool, Change, Spindle, Speed, Rate, X, Y, Z}
 use Rattle.mill_block.specs.declared.profile.Mode.TheVariants.{Off, On}
 use Rattle.mill_block.specs.Numbers.{whole_of}
 
@@ -33,18 +33,20 @@ g_entry n =
 abbrev pub m_entry : ℕ → Option Entry
 m_entry n =
     if (n == 2) || (n == 30) then Some (row 4 End) else
-    (if n == 6 then Some (row 6 Tool) else
-    (if ((n == 3) || (n == 4)) || (n == 5) then Some (row 7 Nothing) else
-    (if ((n == 7) || (n == 8)) || (n == 9) then Some (row 8 Nothing) else None)))
+    (if n == 6 then Some (row 6 Change) else
+    (if (n == 3) || (n == 4) then Some (row 7 (Spindle true)) else
+    (if n == 5 then Some (row 7 (Spindle false)) else
+    (if ((n == 7) || (n == 8)) || (n == 9) then Some (row 8 Nothing) else None))))
 
 -- the letters whose number may be any: F, S, T, X, Y and Z are 70, 83, 84, 88, 89 and 90
 abbrev pub letter_entry : ℕ → Option Entry
 letter_entry letter =
-    if (letter == 70) || (letter == 83) then Some (row 0 Nothing) else
+    if letter == 70 then Some (row 0 Rate) else
+    (if letter == 83 then Some (row 0 Speed) else
     (if letter == 84 then Some (row 0 Tool) else
     (if letter == 88 then Some (row 0 X) else
     (if letter == 89 then Some (row 0 Y) else
-    (if letter == 90 then Some (row 0 Z) else None))))
+    (if letter == 90 then Some (row 0 Z) else None)))))
 
 abbrev pub entry_in : (ℕ → Option Entry) → Option ℕ → Option Entry
 entry_in table None = None
@@ -59,6 +61,7 @@ entry_of w =
 -- a word selects or changes the tool
 abbrev pub is_tool : Effect → Bool
 is_tool Tool = true
+is_tool Change = true
 is_tool effect = false
 
 abbrev pub is_same_group : Group → Group → Bool

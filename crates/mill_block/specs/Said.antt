@@ -9,10 +9,11 @@ use Rattle.mill_block.specs.declared.fault.NgcFault.TheVariants as fault
 use Rattle.mill_block.specs.declared.groups.Group.{Group}
 use Rattle.mill_block.specs.declared.profile.Entry.{Entry}
 use Rattle.mill_block.specs.declared.profile.Effect.{Effect}
-use Rattle.mill_block.specs.declared.profile.Effect.TheVariants.{Motion, Absolute, Millimetres, End, X, Y, Z}
+use Rattle.mill_block.specs.declared.profile.Effect.TheVariants.{Motion, Absolute, Millimetres, End, Change, Spindle, Speed, Rate, X, Y, Z}
 use Rattle.mill_block.specs.declared.profile.Mode.{Mode}
 use Rattle.mill_block.specs.declared.profile.Mode.TheVariants.{On}
 use Rattle.mill_block.specs.declared.said.Said.{Said}
+use Rattle.mill_block.specs.Numbers.{is_over_zero}
 use Rattle.mill_block.specs.Profile.{entry_of, is_tool, is_same_group, may_repeat, repeated}
 
 -- a fault ends the reading
@@ -22,7 +23,7 @@ abbrev pub ◌>>=◌ : {A B : Type 0} → Result A NgcFault → (A → Result B 
 (Err e) >>= f = Err e
 
 abbrev pub nothing_said : Said
-nothing_said = record { groups = []; mode = None; millimetres = false; absolute = false; ends = false; x = None; y = None; z = None }
+nothing_said = record { groups = []; mode = None; millimetres = false; absolute = false; ends = false; changes = false; spindle = None; speed = None; rate = None; x = None; y = None; z = None }
 
 -- what a word of this effect and this number says
 abbrev pub noted : Said → Effect → Num → Said
@@ -30,6 +31,10 @@ noted s (Motion mode) n = record s { mode = Some mode }
 noted s Absolute n = record s { absolute = true }
 noted s Millimetres n = record s { millimetres = true }
 noted s End n = record s { ends = true }
+noted s Change n = record s { changes = true }
+noted s (Spindle turns) n = record s { spindle = Some turns }
+noted s Speed n = record s { speed = Some (is_over_zero n) }
+noted s Rate n = record s { rate = Some (is_over_zero n) }
 noted s X n = record s { x = Some n }
 noted s Y n = record s { y = Some n }
 noted s Z n = record s { z = Some n }

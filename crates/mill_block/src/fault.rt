@@ -31,6 +31,11 @@ pub enum NgcFault {
     /// The line has a letter other than `G` and `M` twice (NISTIR 6556, 3.3.4).
     #[error("line {line}: `{}` twice", char::from(*.letter))]
     Twice { line: u64, letter: u8 },
+    /// Where the tool may stand anywhere before the program: the first line with an axis word isn't
+    /// a rapid with Z alone, at or over the height of the reader's start, or the second one isn't a
+    /// rapid with X and Y both and no Z.
+    #[error("line {line}: not the way up and across that a program begins with")]
+    Start { line: u64 },
     /// An axis word, and no `G21` so far (NISTIR 6556, 3.5.7).
     #[error("line {line}: a move before G21")]
     NoUnits { line: u64 },
@@ -40,6 +45,13 @@ pub enum NgcFault {
     /// An axis word, and no motion mode: neither `G0` nor `G1` so far, or `G80` behind them.
     #[error("line {line}: a move without G0 or G1")]
     NoMotion { line: u64 },
+    /// A feed is asked to have a spindle, and neither `M3` nor `M4` is in force, or the last `S`
+    /// isn't over 0.
+    #[error("line {line}: a feed, and the spindle doesn't turn")]
+    NoSpindle { line: u64 },
+    /// A feed is asked to have a spindle, and the last `F` isn't over 0.
+    #[error("line {line}: a feed without a feed rate")]
+    NoFeed { line: u64 },
     /// An axis word's number isn't a whole number of units.
     #[error("line {line}: an axis number that is not a whole number of units")]
     OffGrid { line: u64 },

@@ -1,5 +1,6 @@
 //! A reader that is fed a program line by line, up to its first fault.
-ghost use Rattle.std.specs.Prelude.{◌≡◌, ◌≢◌, ◌++◌, ◌<◌, ◌^◌, length, OnOk, OnErr, IfOk, IfErr, Ok, Err, None, Some, IfSome};
+ghost use Rattle.std.specs.Prelude.{◌≡◌, ◌≢◌, ◌++◌, [], ◌∷◌, ◌<◌, ◌^◌, length, OnOk, OnErr, IfOk};
+ghost use Rattle.std.specs.Prelude.{IfErr, Ok, Err, None, Some, IfSome};
 ghost use Rattle.std.specs.Str.{bytes_eq};
 ghost use Rattle.mill_base.specs.Ranges.{IsInUnitRange};
 ghost use Rattle.mill_words.specs.Lines.{line_of};
@@ -7,14 +8,21 @@ ghost use Rattle.mill_words.specs.Words.{Line};
 ghost use Rattle.mill_words.specs.Marks.{is_blank as is_blank_byte};
 ghost use Rattle.mill_block.specs.declared.fault.NgcFault.TheVariants as faults;
 ghost use Rattle.mill_block.specs.declared.progress.Progress.{Progress};
-ghost use Rattle.mill_block.specs.Lines.{start_at, is_percent as is_percent_line, percent_step as percent_step_by, has_frame, with_percent, with_line, line_begun, after_line, after_words, words_or_fault, made_list};
-ghost use Rattle.mill_block.specs.Kept.{AddsLine, Keeps};
+ghost use Rattle.mill_block.specs.Lines.{start_at, is_percent as is_percent_line};
+ghost use Rattle.mill_block.specs.Lines.{percent_step as percent_step_by, has_frame, with_percent};
+ghost use Rattle.mill_block.specs.Lines.{with_line, line_begun, after_line, after_words};
+ghost use Rattle.mill_block.specs.Lines.{words_or_fault};
+ghost use Rattle.mill_block.specs.Kept.{Adds, AddsLine, Keeps};
+ghost use Rattle.mill_block.specs.Motion.{known_of};
+ghost use Rattle.mill_block.specs.declared.progress.Known.TheVariants.{All};
 ghost use Rattle.mill_block.specs.inner.PlainMoves.{made_plain};
 
 use crate::fault::NgcFault;
+use crate::motion::add;
 use crate::plain_move::PlainMove;
 use crate::profile::Mode;
-use crate::progress::{Frame, Progress};
+use crate::progress::{Drive, Frame, Known, Progress};
+use crate::rules::Rules;
 use crate::said::Said;
 use mill_base::{MAX_MOVES, Move, Pt3, Unit};
 use mill_words::{LineWords, read_line_into};
@@ -42,14 +50,19 @@ impl Model for LineReader {
 }
 
 impl LineReader {
-    /// A reader before the first line, with the tool at this point and coordinates in this unit.
-    pub fn new(start: Pt3, unit: Unit) -> Self
-        ensures { result ≡ start_at start unit }
+    /// A reader before the first line, with the tool at this point and coordinates in this unit,
+    /// that asks this beside of the program. Where the tool may be anywhere, the point's z alone
+    /// counts: the least height of the way up.
+    pub fn new(start: Pt3, unit: Unit, rules: Rules) -> Self
+        ensures { result ≡ start_at start unit rules }
     {
         LineReader {
             progress: Progress {
+                rules,
                 unit,
                 here: start,
+                known: Known::Nothing,
+                drive: Drive::NONE,
                 mode: Mode::Off,
                 millimetres: false,
                 absolute: false,
@@ -78,7 +91,7 @@ impl LineReader {
         self.progress.line
     }
 
-    /// Takes the next line, without its line end, and adds its move to `out` if it makes one.
+    /// Takes the next line, without its line end, and adds the moves that it makes to `out`.
     ///
     /// The answer is the line's fault, if it has one, or `WantOfMemory` where `out` can't grow. Then
     /// nothing is added, and the reader isn't to be fed again. The tool is to stand in the unit's range,
@@ -90,12 +103,12 @@ impl LineReader {
         requires here { IsInUnitRange self.old.unit self.old.here }
         requires number { self.old.line < 2 ^ 63 }
         ensures ok { OnOk result (AddsLine self.old line.now out.old.items self.new out.new.items) }
-        ensures fault { IfErr result (λ f. f ≢ faults.WantOfMemory → after_line self.old line.now ≡ Err f) }
+        ensures fault { IfErr result (λ f. f ≢ faults.WantOfMemory →
+            after_line self.old line.now ≡ Err f) }
         ensures kept { OnErr result (out.new.items ≡ out.old.items) }
     {
         if let Some(made) = self.progress.read_quick(line) {
-            add(out, Some(made))?;
-            return Ok(());
+            return add(out, made);
         }
         self.read_any_line(line, out)
     }
@@ -108,25 +121,26 @@ impl LineReader {
         requires here { IsInUnitRange self.old.unit self.old.here }
         requires number { self.old.line < 2 ^ 63 }
         ensures ok { OnOk result (AddsLine self.old line.now out.old.items self.new out.new.items) }
-        ensures fault { IfErr result (λ f. f ≢ faults.WantOfMemory → after_line self.old line.now ≡ Err f) }
+        ensures fault { IfErr result (λ f. f ≢ faults.WantOfMemory →
+            after_line self.old line.now ≡ Err f) }
         ensures kept { OnErr result (out.new.items ≡ out.old.items) }
     {
-        let made = match self.progress.read_plain(line) {
-            Some(made) => Some(made),
-            None => self.move_of_any_line(line)?,
-        };
-        add(out, made)
+        match self.progress.read_plain(line) {
+            Some(made) => add(out, made),
+            None => self.act_any_line(line, out),
+        }
     }
 
-    // The move of any line, if it makes one. It is kept apart, since most lines are plain.
+    // The same of any line. It is kept apart, since most lines are plain.
     #[inline(never)]
     #[tactic(auto, unfolding(crate::specs::Lines::after_line))]
-    fn move_of_any_line(&mut self, line: &[u8]) -> Result<Option<Move>, NgcFault>
+    fn act_any_line(&mut self, line: &[u8], out: &mut Vec<Move>) -> Result<(), NgcFault>
         requires here { IsInUnitRange self.old.unit self.old.here }
         requires number { self.old.line < 2 ^ 63 }
-        ensures ok { IfOk result (λ made. after_line self.old line.now ≡ Ok (self.new, made)) }
-        ensures fault { IfErr result (λ f. after_line self.old line.now ≡ Err f) }
-        ensures keeps { IfOk result (λ made. Keeps (line_begun self.old) made self.new) }
+        ensures ok { OnOk result (AddsLine self.old line.now out.old.items self.new out.new.items) }
+        ensures fault { IfErr result (λ f. f ≢ faults.WantOfMemory →
+            after_line self.old line.now ≡ Err f) }
+        ensures kept { OnErr result (out.new.items ≡ out.old.items) }
     {
         self.progress.line += 1;
         if line.len() > LONGEST_LINE {
@@ -136,10 +150,10 @@ impl LineReader {
         }
         if has_percent(self.progress.frame, line) {
             self.progress.take_percent();
-            return Ok(None);
+            return Ok(());
         }
         read_words(self.progress.line, line, &mut self.words)?;
-        self.progress.act_words(&self.words, &mut self.said)
+        self.progress.act_words(&self.words, &mut self.said, out)
     }
 }
 
@@ -149,8 +163,9 @@ impl Progress {
     fn read_quick(&mut self, line: &[u8]) -> Option<Move>
         requires here { IsInUnitRange self.old.unit self.old.here }
         requires number { self.old.line < 2 ^ 63 }
-        ensures made { IfSome result (λ made. after_line self.old line.now ≡ Ok (self.new, Some made)) }
-        ensures keeps { IfSome result (λ made. Keeps (line_begun self.old) (Some made) self.new) }
+        ensures made { IfSome result (λ made.
+            after_line self.old line.now ≡ Ok (self.new, made ∷ [])) }
+        ensures keeps { IfSome result (λ made. Keeps (line_begun self.old) (made ∷ []) self.new) }
         ensures stays { result ≡ None → self.new ≡ self.old }
     {
         if line.len() > LONGEST_LINE || has_percent(self.frame, line) {
@@ -166,8 +181,9 @@ impl Progress {
     fn read_plain(&mut self, line: &[u8]) -> Option<Move>
         requires here { IsInUnitRange self.old.unit self.old.here }
         requires number { self.old.line < 2 ^ 63 }
-        ensures made { IfSome result (λ made. after_line self.old line.now ≡ Ok (self.new, Some made)) }
-        ensures keeps { IfSome result (λ made. Keeps (line_begun self.old) (Some made) self.new) }
+        ensures made { IfSome result (λ made.
+            after_line self.old line.now ≡ Ok (self.new, made ∷ [])) }
+        ensures keeps { IfSome result (λ made. Keeps (line_begun self.old) (made ∷ []) self.new) }
         ensures stays { result ≡ None → self.new ≡ self.old }
     {
         if line.len() > LONGEST_LINE || has_percent(self.frame, line) {
@@ -179,25 +195,35 @@ impl Progress {
     }
 
     // Does what the words of the line say.
-    fn act_words(&mut self, words: &LineWords, said: &mut Said) -> Result<Option<Move>, NgcFault>
+    fn act_words(
+        &mut self,
+        words: &LineWords,
+        said: &mut Said,
+        out: &mut Vec<Move>,
+    ) -> Result<(), NgcFault>
         requires here { IsInUnitRange self.old.unit self.old.here }
-        ensures ok { IfOk result (λ made. after_words self.old words.now ≡ Ok (self.new, made)) }
-        ensures fault { IfErr result (λ f. after_words self.old words.now ≡ Err f) }
-        ensures keeps { IfOk result (λ made. Keeps self.old made self.new) }
+        ensures ok { OnOk result
+            (Adds (after_words self.old words.now) self.old out.old.items self.new out.new.items) }
+        ensures fault { IfErr result (λ f. f ≢ faults.WantOfMemory →
+            after_words self.old words.now ≡ Err f) }
+        ensures kept { OnErr result (out.new.items ≡ out.old.items) }
     {
         if let Some(plain) = self.plain_move(words) {
-            return Ok(Some(self.make_plain(plain)));
+            let made = self.make_plain(plain);
+            return add(out, made);
         }
-        self.act_any_words(words, said)
+        self.act_any_words(words, said, out)
     }
 
     // Makes the move of a line that is only that.
     #[inline(always)]
     fn make_plain(&mut self, plain: PlainMove) -> Move
+        requires place { known_of self.old ≡ All }
         requires few { self.old.moves < MAX_MOVES }
+        requires here { IsInUnitRange self.old.unit self.old.here }
         requires to { IsInUnitRange self.old.unit plain.to }
-        ensures made { made_plain self.old plain ≡ Ok (self.new, Some result) }
-        ensures keeps { Keeps self.old (Some result) self.new }
+        ensures made { made_plain self.old plain ≡ Ok (self.new, result ∷ []) }
+        ensures keeps { Keeps self.old (result ∷ []) self.new }
     {
         self.mode = Mode::On(plain.kind);
         self.ended = false;
@@ -211,15 +237,18 @@ impl Progress {
         &mut self,
         words: &LineWords,
         said: &mut Said,
-    ) -> Result<Option<Move>, NgcFault>
+        out: &mut Vec<Move>,
+    ) -> Result<(), NgcFault>
         requires here { IsInUnitRange self.old.unit self.old.here }
-        ensures ok { IfOk result (λ made. after_words self.old words.now ≡ Ok (self.new, made)) }
-        ensures fault { IfErr result (λ f. after_words self.old words.now ≡ Err f) }
-        ensures keeps { IfOk result (λ made. Keeps self.old made self.new) }
+        ensures ok { OnOk result
+            (Adds (after_words self.old words.now) self.old out.old.items self.new out.new.items) }
+        ensures fault { IfErr result (λ f. f ≢ faults.WantOfMemory →
+            after_words self.old words.now ≡ Err f) }
+        ensures kept { OnErr result (out.new.items ≡ out.old.items) }
     {
         said.read(self.line, self.positioned, words)?;
         self.know_frame(words.is_blank());
-        self.act(said)
+        self.act(said, out)
     }
 
     // A line that isn't blank, and isn't a `%` alone, shows that a program isn't framed.
@@ -241,23 +270,6 @@ impl Progress {
             _ => self.frame = Frame::Framed,
         }
     }
-}
-
-// Adds the move of a line, if it makes one. It is pushed by its parts, so that none of them needs a
-// place in memory first.
-fn add(moves: &mut Vec<Move>, made: Option<Move>) -> Result<(), NgcFault>
-    ensures ok { OnOk result (moves.new.items ≡ moves.old.items ++ made_list made) }
-    ensures fault { IfErr result (λ f. f ≡ faults.WantOfMemory) }
-    ensures kept { OnErr result (moves.new.items ≡ moves.old.items) }
-{
-    if let Some(made) = made {
-        moves.push(Move {
-            kind: made.kind,
-            from: made.from,
-            to: made.to,
-        })?;
-    }
-    Ok(())
 }
 
 fn read_words(number: u64, line: &[u8], words: &mut LineWords) -> Result<(), NgcFault>

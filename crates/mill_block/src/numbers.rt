@@ -1,9 +1,14 @@
 //! The values of numbers.
-ghost use Rattle.std.specs.Prelude.{◌≡◌, ◌^◌, ◌≤◌, ◌<◌, IfOk};
+ghost use Rattle.std.specs.Prelude.{◌≡◌, ◌^◌, ◌*◌, ◌≤◌, ◌<◌, ◌*ℤ◌, pos, IfOk};
 ghost use Rattle.mill_words.specs.Words.{FitsNum};
 ghost use Rattle.mill_base.specs.Numbers.{Within};
 ghost use Rattle.mill_base.specs.Units.{places_of, greatest_of};
-ghost use Rattle.mill_block.specs.Numbers.{whole_of as whole_number_of, whole_units as whole_units_of, is_on_grid as is_on_grid_number, axis_units as units_by, signed as signed_by};
+ghost use Rattle.mill_block.specs.Numbers.{whole_of as whole_number_of};
+ghost use Rattle.mill_block.specs.Numbers.{whole_units as whole_units_of};
+ghost use Rattle.mill_block.specs.Numbers.{is_over_zero as is_over_zero_number};
+ghost use Rattle.mill_block.specs.Numbers.{is_at_or_over as is_at_or_over_height};
+ghost use Rattle.mill_block.specs.Numbers.{is_on_grid as is_on_grid_number, axis_units as units_by};
+ghost use Rattle.mill_block.specs.Numbers.{signed as signed_by};
 
 use crate::fault::NgcFault;
 use mill_base::Unit;
@@ -23,6 +28,38 @@ pub(crate) fn whole_of(num: Num) -> Option<u64>
         return None;
     }
     Some(num.mant / unit)
+}
+
+/// Whether a number is over 0.
+pub(crate) fn is_over_zero(num: Num) -> bool
+    ensures { result ≡ is_over_zero_number num }
+{
+    !num.neg && num.mant > 0
+}
+
+/// Whether a number of millimetres is at or over a height in units, all of its digits taken.
+pub(crate) fn is_at_or_over(num: Num, height: i32, unit: Unit) -> bool
+    requires { FitsNum 18 num }
+    ensures { result ≡ is_at_or_over_height unit height num }
+{
+    height_parts(height, num.scale) <= parts(num, unit)
+}
+
+// A height in units, in parts of a unit of 10^scale.
+fn height_parts(height: i32, scale: u8) -> i128
+    requires { scale ≤ 18 }
+    ensures { result ≡ height *ℤ pos (10 ^ scale) }
+{
+    i128::from(height) * i128::from(power(scale))
+}
+
+// A number of millimetres, in parts of a unit of 10^(its scale).
+fn parts(num: Num, unit: Unit) -> i128
+    requires { FitsNum 18 num }
+    ensures { result ≡ signed_by num.neg (num.mant * 10 ^ places_of unit) }
+{
+    let parts = i128::from(num.mant) * i128::from(power(unit.places() as u8));
+    if num.neg { -parts } else { parts }
 }
 
 /// The units of an axis number, on this line.

@@ -3,18 +3,24 @@
 //!
 //! They are read without what other lines need, and where their words are plain, straight from their
 //! bytes. Where anything else stands on a line, it is read as any line is.
-ghost use Rattle.std.specs.Prelude.{◌≡◌, ◌+◌, ◌<◌, ◌^◌, length, Bool, true, false, None, Some, IfSome, IsTrue, unwrap_or};
+ghost use Rattle.std.specs.Prelude.{◌≡◌, ◌+◌, ◌<◌, ◌^◌, length, Bool, true, false, None, Some};
+ghost use Rattle.std.specs.Prelude.{IfSome, IsTrue, unwrap_or};
 ghost use Rattle.mill_base.specs.Ranges.{IsInUnitRange};
 ghost use Rattle.mill_base.specs.Units.{places_of};
 ghost use Rattle.mill_words.specs.Words.{FitsNum, FitsWord};
 ghost use Rattle.mill_block.specs.declared.profile.Mode.TheVariants.{On};
 ghost use Rattle.mill_block.specs.declared.said.Said.{Said};
 ghost use Rattle.mill_block.specs.Lines.{line_begun};
-ghost use Rattle.mill_block.specs.inner.PlainMoves.{Goes, IsAxis, IsCapital, IsEnd, IsMotion, IsReady, IsUnits, LineMovesTo, MovesTo, Says, mode_of, words_in};
+ghost use Rattle.mill_block.specs.Motion.{known_of};
+ghost use Rattle.mill_block.specs.Numbers.{is_over_zero as is_over_zero_number};
+ghost use Rattle.mill_block.specs.declared.progress.Known.TheVariants.{All};
+ghost use Rattle.mill_block.specs.inner.PlainMoves.{Goes, HasDrive, IsAxis, IsCapital, IsEnd};
+ghost use Rattle.mill_block.specs.inner.PlainMoves.{IsMotion, IsReady, IsUnits, LineMovesTo};
+ghost use Rattle.mill_block.specs.inner.PlainMoves.{MovesTo, Says, mode_of, words_in};
 
-use crate::numbers::{signed, units_of};
+use crate::numbers::{is_over_zero, signed, units_of};
 use crate::profile::Mode;
-use crate::progress::{Frame, Progress};
+use crate::progress::{Frame, Known, Progress};
 use mill_base::{Kind, MAX_MOVES, Pt3, Unit};
 use mill_words::{LineWords, Num, Word, plain_number_behind};
 
@@ -23,7 +29,7 @@ use mill_words::{LineWords, Num, Word, plain_number_behind};
 pub(crate) struct PlainLine {
     /// The move's kind, if the line names it.
     pub kind: Option<Kind>,
-    /// Whether it has an `F`.
+    /// Whether it has an `F`, which is over 0.
     pub feed: bool,
     /// The coordinates that it names, in units.
     pub x: Option<i32>,
@@ -90,7 +96,36 @@ impl Progress {
     {
         match self.frame {
             Frame::Unknown => false,
-            _ => self.millimetres && self.absolute && self.moves < MAX_MOVES as u64,
+            _ => {
+                self.millimetres
+                    && self.absolute
+                    && self.moves < MAX_MOVES as u64
+                    && self.asks_no_more()
+            }
+        }
+    }
+
+    // Whether a move has to keep to nothing more: nothing is asked beside, or it is there already.
+    #[inline(always)]
+    fn asks_no_more(&self) -> bool
+        ensures place { IsTrue result → known_of self.now ≡ All }
+        ensures drive { IsTrue result → HasDrive self.now.rules.needs_spindle self.now.drive }
+    {
+        if !self.rules.from_anywhere && !self.rules.needs_spindle {
+            return true;
+        }
+        self.keeps_rules()
+    }
+
+    // The same where something is asked beside. It is kept apart, since that is so of few programs.
+    #[inline(never)]
+    fn keeps_rules(&self) -> bool
+        ensures place { IsTrue result → known_of self.now ≡ All }
+        ensures drive { IsTrue result → HasDrive self.now.rules.needs_spindle self.now.drive }
+    {
+        match self.known_place() {
+            Known::All => !self.rules.needs_spindle || self.drive.is_all(),
+            _ => false,
         }
     }
 
@@ -140,7 +175,7 @@ impl PlainLine {
             b'Y' => take_axis(&mut self.y, line, unit, word.num),
             b'Z' => take_axis(&mut self.z, line, unit, word.num),
             b'G' => take_motion(&mut self.kind, word.num),
-            b'F' => take_feed(&mut self.feed),
+            b'F' => take_feed(&mut self.feed, word.num),
             _ => false,
         }
     }
@@ -207,7 +242,8 @@ pub(crate) fn whole_units(_line: u64, unit: Unit, num: Num) -> Option<i32>
 #[inline(never)]
 fn scaled_units(line: u64, unit: Unit, neg: bool, mant: u64, scale: u8) -> Option<i32>
     requires { FitsNum 18 (record { neg = neg; mant = mant; scale = scale }) }
-    ensures { IfSome result (λ units. IsUnits unit line units (record { neg = neg; mant = mant; scale = scale })) }
+    ensures { IfSome result (λ units.
+        IsUnits unit line units (record { neg = neg; mant = mant; scale = scale })) }
 {
     match units_of(line, Num { neg, mant, scale }, unit) {
         Ok(units) => Some(units),
@@ -232,13 +268,14 @@ pub(crate) fn take_motion(kind: &mut Option<Kind>, num: Num) -> bool
     true
 }
 
-// Takes an `F`, where the line has none so far.
+// Takes the number of an `F`, where the line has none so far, and it is over 0.
 #[inline(always)]
-fn take_feed(feed: &mut bool) -> bool
+fn take_feed(feed: &mut bool, num: Num) -> bool
     ensures new { IsTrue result → feed.old ≡ false }
     ensures had { IsTrue result → feed.new ≡ true }
+    ensures over { IsTrue result → is_over_zero_number num ≡ true }
 {
-    if *feed {
+    if *feed || !is_over_zero(num) {
         return false;
     }
     *feed = true;

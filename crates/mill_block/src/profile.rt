@@ -1,7 +1,9 @@
 //! The words of the profile: each one's group, and its effect.
 ghost use Rattle.std.specs.Prelude.{◌≡◌};
 ghost use Rattle.mill_words.specs.Words.{FitsWord};
-ghost use Rattle.mill_block.specs.Profile.{g_entry as g_entry_of, m_entry as m_entry_of, letter_entry as letter_entry_of, entry_of as entry_of_word, row as row_with};
+ghost use Rattle.mill_block.specs.Profile.{g_entry as g_entry_of, m_entry as m_entry_of};
+ghost use Rattle.mill_block.specs.Profile.{letter_entry as letter_entry_of};
+ghost use Rattle.mill_block.specs.Profile.{entry_of as entry_of_word, row as row_with};
 
 use crate::numbers::whole_of;
 use mill_base::Kind;
@@ -19,7 +21,7 @@ pub(crate) enum Mode {
 /// What a word does.
 #[derive(Clone, Copy)]
 pub(crate) enum Effect {
-    /// Nothing that the moves depend on.
+    /// Nothing.
     Nothing,
     /// Sets the motion mode.
     Motion(Mode),
@@ -29,8 +31,16 @@ pub(crate) enum Effect {
     Millimetres,
     /// Ends the program with its line.
     End,
-    /// Selects or changes the tool.
+    /// Selects the tool.
     Tool,
+    /// Changes it, and stops the spindle.
+    Change,
+    /// Starts the spindle, or stops it.
+    Spindle(bool),
+    /// Sets the spindle's speed.
+    Speed,
+    /// Sets the feed rate.
+    Rate,
     /// Names the x of the move's end.
     X,
     /// Names its y.
@@ -84,8 +94,9 @@ fn m_entry(number: u64) -> Option<Entry>
 {
     match number {
         2 | 30 => Some(row(4, Effect::End)),
-        6 => Some(row(6, Effect::Tool)),
-        3 | 4 | 5 => Some(row(7, Effect::Nothing)),
+        6 => Some(row(6, Effect::Change)),
+        3 | 4 => Some(row(7, Effect::Spindle(true))),
+        5 => Some(row(7, Effect::Spindle(false))),
         7 | 8 | 9 => Some(row(8, Effect::Nothing)),
         _ => None,
     }
@@ -95,7 +106,8 @@ fn letter_entry(letter: u8) -> Option<Entry>
     ensures { result ≡ letter_entry_of letter }
 {
     match letter {
-        b'F' | b'S' => Some(row(0, Effect::Nothing)),
+        b'F' => Some(row(0, Effect::Rate)),
+        b'S' => Some(row(0, Effect::Speed)),
         b'T' => Some(row(0, Effect::Tool)),
         b'X' => Some(row(0, Effect::X)),
         b'Y' => Some(row(0, Effect::Y)),

@@ -1,6 +1,12 @@
 //! How far a program is read.
+ghost use Rattle.std.specs.Prelude.{◌≡◌, IsTrue, OnOk, IfErr, Ok, Err};
+ghost use Rattle.mill_block.specs.Drives.{driven, drive_fault, full_drive};
+
+use crate::fault::NgcFault;
 use crate::profile::Mode;
-use mill_base::{Pt3, Unit};
+use crate::rules::Rules;
+use crate::said::Said;
+use mill_base::{Kind, Pt3, Unit};
 
 /// Whether a program is framed by `%` lines.
 #[derive(Clone, Copy)]
@@ -11,13 +17,88 @@ pub(crate) enum Frame {
     Plain,
 }
 
+/// What is known of the tool's place, where the rules say that it may be anywhere before the
+/// program.
+#[derive(Clone, Copy)]
+pub(crate) enum Known {
+    /// Nothing: no line has had an axis word.
+    Nothing,
+    /// Its height: one line had.
+    Height,
+    /// All of it.
+    All,
+}
+
+/// What there is of what a feed needs.
+#[derive(Clone, Copy)]
+pub(crate) struct Drive {
+    /// The spindle turns: `M3` or `M4` is in force.
+    pub turns: bool,
+    /// The last `S` is over 0.
+    pub speed: bool,
+    /// The last `F` is over 0.
+    pub rate: bool,
+}
+
+impl Drive {
+    /// Before the first line.
+    pub const NONE: Drive = Drive {
+        turns: false,
+        speed: false,
+        rate: false,
+    };
+
+    /// What there is behind a line that says this.
+    pub fn behind(self, said: &Said) -> Drive
+        ensures { result ≡ driven self said.now }
+    {
+        Drive {
+            turns: said.spindle.unwrap_or(self.turns && !said.changes),
+            speed: said.speed.unwrap_or(self.speed),
+            rate: said.rate.unwrap_or(self.rate),
+        }
+    }
+
+    /// Whether a move of this kind may come with so much of it. The fault is that of this line.
+    pub fn check(self, kind: Kind, line: u64) -> Result<(), NgcFault>
+        ensures ok { OnOk result (drive_fault kind self line ≡ Ok tt) }
+        ensures fault { IfErr result (λ f. drive_fault kind self line ≡ Err f) }
+    {
+        match kind {
+            Kind::Rapid => Ok(()),
+            Kind::Feed => {
+                if !(self.turns && self.speed) {
+                    return Err(NgcFault::NoSpindle { line });
+                }
+                if !self.rate {
+                    return Err(NgcFault::NoFeed { line });
+                }
+                Ok(())
+            }
+        }
+    }
+
+    /// Whether it is all there.
+    pub fn is_all(&self) -> bool
+        ensures { IsTrue result → self.now ≡ full_drive }
+    {
+        self.turns && self.speed && self.rate
+    }
+}
+
 /// What the lines so far have settled.
 #[derive(Clone, Copy)]
 pub(crate) struct Progress {
+    /// What is asked of it.
+    pub rules: Rules,
     /// The unit of its coordinates.
     pub unit: Unit,
     /// The end of the last move, or the start.
     pub here: Pt3,
+    /// How much of that is so, if the tool may be anywhere before the program.
+    pub known: Known,
+    /// What a feed needs, if it is asked to have a spindle.
+    pub drive: Drive,
     pub mode: Mode,
     /// A line had `G21`.
     pub millimetres: bool,

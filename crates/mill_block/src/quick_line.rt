@@ -1,14 +1,17 @@
 //! Lines that are only a move, and spelled as most lines of a program are: a `G0` or `G1` or none,
-//! behind it numbers of X, Y and Z in this order, each with the unit's decimals, and last a feed rate
-//! or none.
+//! behind it numbers of X, Y and Z in this order, each with the unit's decimals, and last a feed
+//! rate over 0 or none.
 //!
 //! They are read with less to decide than any line of plain words.
-ghost use Rattle.std.specs.Prelude.{◌≡◌, ◌+◌, ◌<◌, ◌≤◌, ◌^◌, ◌||◌, length, None, IfSome, IsTrue, is_some};
+ghost use Rattle.std.specs.Prelude.{◌≡◌, ◌+◌, ◌<◌, ◌≤◌, ◌^◌, ◌||◌, length, None, IfSome, IsTrue};
+ghost use Rattle.std.specs.Prelude.{is_some};
 ghost use Rattle.mill_base.specs.Ranges.{IsInUnitRange};
 ghost use Rattle.mill_block.specs.declared.progress.Progress.{Progress};
 ghost use Rattle.mill_block.specs.Lines.{line_begun};
-ghost use Rattle.mill_block.specs.inner.PlainMoves.{EndsLine, IsReady, LineMovesTo, ReadTo, ReadsAxis, in_order};
+ghost use Rattle.mill_block.specs.inner.PlainMoves.{EndsLine, IsReady, LineMovesTo, ReadTo};
+ghost use Rattle.mill_block.specs.inner.PlainMoves.{ReadsAxis, in_order};
 
+use crate::numbers::is_over_zero;
 use crate::plain_move::{PlainMove, kind_in, take_motion, whole_units};
 use crate::progress::Progress;
 use mill_base::{Kind, Pt3, Unit};
@@ -107,7 +110,7 @@ fn ends_with_feed(line: &[u8], place: usize) -> bool
     let Some(number) = plain_number_behind(line, place) else {
         return false;
     };
-    if number.end < line.len() {
+    if number.end < line.len() || !is_over_zero(number.num) {
         return false;
     }
     true
@@ -123,7 +126,8 @@ fn names_axis(x: Option<i32>, y: Option<i32>, z: Option<i32>) -> bool
 // stands behind its `G`.
 #[inline(always)]
 fn motion_at(line: &[u8]) -> Option<NamedMotion>
-    ensures read { IfSome result (λ m. (p : Progress) → ReadTo p line.now m.end (in_order m.kind None None None)) }
+    ensures read { IfSome result (λ m. (p : Progress) →
+        ReadTo p line.now m.end (in_order m.kind None None None)) }
     ensures within { IfSome result (λ m. m.end ≤ length line.now) }
 {
     if line.is_empty() || line[0] != b'G' {

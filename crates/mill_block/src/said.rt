@@ -2,12 +2,17 @@
 ghost use Rattle.std.specs.Prelude.{◌≡◌, ◌<◌, ◌≤◌, ◌+◌, length, OnOk, IfErr, Ok, Err, Some, None};
 ghost use Rattle.mill_words.specs.Words.{FitsNum, FitsWord};
 ghost use Rattle.mill_words.specs.Words.{Line};
-ghost use Rattle.mill_block.specs.Profile.{is_tool as is_tool_effect, may_repeat as may_repeat_group, repeated as repeated_group};
-ghost use Rattle.mill_block.specs.Said.{nothing_said, noted, once as once_in, after_entry, after_word, said_from, said_by, has_axis as has_axis_said, has_motion as has_motion_mode};
+ghost use Rattle.mill_block.specs.Profile.{is_tool as is_tool_effect};
+ghost use Rattle.mill_block.specs.Profile.{may_repeat as may_repeat_group};
+ghost use Rattle.mill_block.specs.Profile.{repeated as repeated_group};
+ghost use Rattle.mill_block.specs.Said.{nothing_said, noted, once as once_in, after_entry};
+ghost use Rattle.mill_block.specs.Said.{after_word, said_from, said_by, has_axis as has_axis_said};
+ghost use Rattle.mill_block.specs.Said.{has_motion as has_motion_mode};
 ghost use Rattle.mill_block.specs.inner.Bounds.{FitsSaid};
 
 use crate::fault::NgcFault;
 use crate::groups::{Group, Groups};
+use crate::numbers::is_over_zero;
 use crate::profile::{Effect, Entry, Mode, entry_of, row};
 use mill_words::{LineWords, Num, Word};
 
@@ -19,6 +24,14 @@ pub(crate) struct Said {
     pub millimetres: bool,
     pub absolute: bool,
     pub ends: bool,
+    /// It changes the tool.
+    pub changes: bool,
+    /// It starts the spindle, or stops it.
+    pub spindle: Option<bool>,
+    /// It has an `S`, which is over 0 or not.
+    pub speed: Option<bool>,
+    /// It has an `F`, which is over 0 or not.
+    pub rate: Option<bool>,
     pub x: Option<Num>,
     pub y: Option<Num>,
     pub z: Option<Num>,
@@ -34,6 +47,10 @@ impl Said {
             millimetres: false,
             absolute: false,
             ends: false,
+            changes: false,
+            spindle: None,
+            speed: None,
+            rate: None,
             x: None,
             y: None,
             z: None,
@@ -48,6 +65,10 @@ impl Said {
         self.millimetres = false;
         self.absolute = false;
         self.ends = false;
+        self.changes = false;
+        self.spindle = None;
+        self.speed = None;
+        self.rate = None;
         self.x = None;
         self.y = None;
         self.z = None;
@@ -142,8 +163,10 @@ impl Said {
         requires said { FitsSaid self.old }
         requires word { FitsWord word.now }
         requires room { length self.old.groups < 32 }
-        ensures ok { OnOk result (after_entry line positioned self.old word.now entry ≡ Ok self.new) }
-        ensures fault { IfErr result (λ f. after_entry line positioned self.old word.now entry ≡ Err f) }
+        ensures ok { OnOk result
+            (after_entry line positioned self.old word.now entry ≡ Ok self.new) }
+        ensures fault { IfErr result (λ f.
+            after_entry line positioned self.old word.now entry ≡ Err f) }
         ensures fits { OnOk result (FitsSaid self.new) }
         ensures few { length self.new.groups ≤ length self.old.groups + 1 }
     {
@@ -172,6 +195,10 @@ impl Said {
             Effect::Absolute => self.absolute = true,
             Effect::Millimetres => self.millimetres = true,
             Effect::End => self.ends = true,
+            Effect::Change => self.changes = true,
+            Effect::Spindle(turns) => self.spindle = Some(turns),
+            Effect::Speed => self.speed = Some(is_over_zero(*num)),
+            Effect::Rate => self.rate = Some(is_over_zero(*num)),
             Effect::X => self.x = Some(*num),
             Effect::Y => self.y = Some(*num),
             Effect::Z => self.z = Some(*num),
@@ -221,5 +248,5 @@ fn repeated(line: u64, group: Group) -> NgcFault
 fn is_tool(effect: Effect) -> bool
     ensures { result ≡ is_tool_effect effect }
 {
-    matches!(effect, Effect::Tool)
+    matches!(effect, Effect::Tool | Effect::Change)
 }

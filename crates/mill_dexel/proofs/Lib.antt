@@ -7,7 +7,6 @@ mod Chords
 mod CutRows
 mod EndCerts
 mod Again
-mod Raising
 mod Beyond
 mod LineCerts
 mod Lines

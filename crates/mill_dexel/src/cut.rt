@@ -30,16 +30,18 @@ pub(crate) fn cut_move(tops: &mut [i32], job: &Job, number: u32, step: &Move, la
     requires last { IfSome last (λ tip. IsCutAt job.now.fields number tip tops.old) }
     ensures { tops.new ≡ tops_after_move job.now.fields number 0 step.now tops.old }
 {
-    let cutter = job.inner().cutter();
-    let lift = job.inner().lift();
+    let inner = job.inner();
+    let cutter = inner.cutter();
     if is_beyond(job.row_y(number), cutter.radius(), step.from.y, step.to.y) {
         return;
     }
     let narrowed = shrink(cutter);
+    let lift = inner.lift();
     let d = halvings(step, job.fields.sample.unsigned_abs());
     for k in first_sample(step, last)..power_of_two(d) + 1 {
-        let sample = sample_at(cutter, narrowed, step, d, k);
-        cut_sample(tops, job, number, raised(sample, lift));
+        let mut sample = sample_at(cutter, narrowed, step, d, k);
+        raise(&mut sample, lift);
+        cut_sample(tops, job, number, sample);
     }
 }
 
@@ -51,17 +53,17 @@ fn first_sample(step: &Move, last: Option<Pt3>) -> u64
     if last == Some(step.from) { 1 } else { 0 }
 }
 
-/// The sample, if there is one, with its tip higher by a solid's lift.
-fn raised(sample: Option<Placed>, lift: i32) -> Option<Placed>
-    requires sample_ok { IfSome sample IsSample }
+/// Raises the tip of the sample, if there is one, by a solid's lift.
+fn raise(sample: &mut Option<Placed>, lift: i32)
+    requires sample_ok { IfSome sample.old IsSample }
     requires lift_least { pos 0 ≤ℤ lift }
     requires lift_most { lift ≤ℤ pos 3400 }
-    ensures value { result ≡ raised_sample lift sample }
-    ensures sample { IfSome result IsRaisedSample }
+    ensures value { sample.new ≡ raised_sample lift sample.old }
+    ensures sample { IfSome sample.new IsRaisedSample }
 {
-    let mut sample = sample?;
-    sample.tip.z += lift;
-    Some(sample)
+    if let Some(sample) = sample {
+        sample.tip.z += lift;
+    }
 }
 
 /// Lowers the tops of a row to where the sample's cutter cuts, if there is one.

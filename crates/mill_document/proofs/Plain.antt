@@ -13,7 +13,7 @@ use Rattle.mill_document.specs.declared.failure.Segment.{Segment}
 use Rattle.mill_document.specs.declared.failure.Triangle.{Triangle}
 use Rattle.mill_document.specs.declared.report.Summary.{Summary}
 use Rattle.mill_document.specs.declared.report.Sums.{Sums}
-use Rattle.mill_document.specs.Documents.{bytes_data, column_data, column_or_null, corners_data, failure_data, leaf_data, length_data, length_or_null, list_of, put_answer, put_column, put_lists, put_numbers, put_obstacle, put_place, put_sums, report_data, segment_data, sum_data, sums_data, test_name, too_high_data, triangle_or_null, unit_name, whole}
+use Rattle.mill_document.specs.Documents.{bytes_data, column_data, column_or_null, corners_data, failure_data, leaf_data, length_data, length_or_null, list_of, put_answer, put_column, put_fixture, put_lists, put_numbers, put_obstacle, put_place, put_sums, report_data, segment_data, sum_data, sums_data, test_name, too_high_data, triangle_or_null, unit_name, whole}
 use Rattle.serde_json.specs.Data.{Data, string, Members, no_members, member, put}
 use Rattle.serde_json.specs.View.{items_of, view}
 use Rattle.serde_json.specs.Written.{has_float, items_have_float, members_have_float}
@@ -102,8 +102,12 @@ plain_obstacle unit f {ms} no_ms =
     (plain_put (codes "column") (column_or_null unit f.column) (plain_column_or_null unit f.column)
     (plain_put (codes "triangle") (triangle_or_null unit f.triangle) (plain_triangle unit f.triangle) no_ms))))
 
-plain_members_of_failure : (unit : Unit) (words : List ℕ) (f : Failure) → NoFloat (put_obstacle unit f (put_place words f no_members))
-plain_members_of_failure unit words f = plain_obstacle unit f (plain_place words f no_float)
+plain_fixture : (o : Option ℕ) {ms : Members} → NoFloat ms → NoFloat (put_fixture o ms)
+plain_fixture None no_ms = no_ms
+plain_fixture (Some b) no_ms = plain_put (codes "box") (whole b) refl no_ms
+
+plain_members_of_failure : (unit : Unit) (words : List ℕ) (f : Failure) → NoFloat (put_fixture f.fixture (put_obstacle unit f (put_place words f no_members)))
+plain_members_of_failure unit words f = plain_fixture f.fixture (plain_obstacle unit f (plain_place words f no_float))
 
 pub plain_failure : (unit : Unit) (words : List ℕ) (f : Failure) → has_float (failure_data unit words f) ≡ false
 plain_failure unit words f = (plain_members_of_failure unit words f).none

@@ -24,7 +24,7 @@ use Rattle.mill_sweep.specs.Leaves.{end_of}
 use Rattle.mill_sweep.specs.declared.leaf.Leaf.{Leaf}
 use Rattle.mill_verify.specs.Tests.{stock_met}
 use Rattle.mill_verify.specs.declared.verdict.Reason.{Reason}
-use Rattle.mill_verify.specs.declared.verdict.Reason.TheVariants.{Floor, Gouge, Holder, Rapid, Cut, HolderStock, Left}
+use Rattle.mill_verify.specs.declared.verdict.Reason.TheVariants.{Floor, Gouge, Holder, Fixture, HolderFixture, Rapid, Cut, HolderStock, Left}
 use Rattle.serde_json.specs.Data.{Data}
 
 -- ---- what a reason names
@@ -34,6 +34,8 @@ abbrev pub test_of : Reason → Test
 test_of (Floor k) = tests.Floor
 test_of (Gouge k t leaf) = tests.Gouge
 test_of (Holder k t leaf) = tests.Holder
+test_of (Fixture k b leaf) = tests.Fixture
+test_of (HolderFixture k b leaf) = tests.HolderFixture
 test_of (Rapid k j i leaf) = tests.Rapid
 test_of (Cut k j i leaf) = tests.Cut
 test_of (HolderStock k j i leaf) = tests.HolderStock
@@ -44,6 +46,12 @@ abbrev pub triangle_number : Reason → Option ℕ
 triangle_number (Gouge k t leaf) = Some t
 triangle_number (Holder k t leaf) = Some t
 triangle_number _ = None
+
+-- the number of the fixture in the way
+abbrev pub fixture_number : Reason → Option ℕ
+fixture_number (Fixture k b leaf) = Some b
+fixture_number (HolderFixture k b leaf) = Some b
+fixture_number _ = None
 
 -- the numbers of the row and of the column in the way
 abbrev pub column_numbers : Reason → Option (ℕ × ℕ)
@@ -57,6 +65,8 @@ abbrev pub leaf_of : Reason → Option Leaf
 leaf_of (Floor k) = None
 leaf_of (Gouge k t leaf) = Some leaf
 leaf_of (Holder k t leaf) = Some leaf
+leaf_of (Fixture k b leaf) = Some leaf
+leaf_of (HolderFixture k b leaf) = Some leaf
 leaf_of (Rapid k j i leaf) = Some leaf
 leaf_of (Cut k j i leaf) = Some leaf
 leaf_of (HolderStock k j i leaf) = Some leaf
@@ -106,6 +116,7 @@ failure_of job part moves reason line top lift = record {
   line = line;
   test = test_of reason;
   triangle = triangle_of part reason;
+  fixture = fixture_number reason;
   column = column_of job top reason;
   segment = segment_of (move_at moves (move_of reason)) reason;
   lift = lift;

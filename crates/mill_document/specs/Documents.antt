@@ -57,6 +57,8 @@ abbrev pub test_name : Test → List ℕ
 test_name tests.Floor = codes "floor"
 test_name tests.Gouge = codes "gouge"
 test_name tests.Holder = codes "holder"
+test_name tests.Fixture = codes "fixture"
+test_name tests.HolderFixture = codes "holder-fixture"
 test_name tests.Rapid = codes "rapid"
 test_name tests.Cut = codes "cut"
 test_name tests.HolderStock = codes "holder-stock"
@@ -123,9 +125,14 @@ put_obstacle unit f members =
     (put (codes "column") (column_or_null unit f.column)
     (put (codes "triangle") (triangle_or_null unit f.triangle) members))))
 
+-- the number of the fixture in its way, which is told only where one is
+abbrev pub put_fixture : Option ℕ → Members → Members
+put_fixture None members = members
+put_fixture (Some b) members = put (codes "box") (whole b) members
+
 -- a move that fails, with the words of its line
 abbrev pub failure_data : Unit → List ℕ → Failure → Data
-failure_data unit words f = object (put_obstacle unit f (put_place words f no_members))
+failure_data unit words f = object (put_fixture f.fixture (put_obstacle unit f (put_place words f no_members)))
 
 -- ---- the whole
 

@@ -7,7 +7,9 @@ ghost use Rattle.mill_job.specs.Columns.{IsColumn};
 ghost use Rattle.mill_report.specs.Findings.{IsFinding, move_of};
 
 use crate::failure::{Column, Failure, Segment, Triangle};
-use crate::numbers::{column_numbers, leaf_of, move_number, test_of, triangle_number};
+use crate::numbers::{
+    column_numbers, fixture_number, leaf_of, move_number, test_of, triangle_number,
+};
 use crate::segment::segment;
 use mill_base::Move;
 use mill_job::Job;
@@ -35,6 +37,7 @@ pub(crate) fn failure(
         line,
         test: test_of(reason),
         triangle: triangle_of(part, reason),
+        fixture: fixture_number(reason),
         column: column_of(job, reason, top),
         segment: segment_of(&moves[number as usize], reason),
         lift,

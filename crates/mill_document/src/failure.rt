@@ -1,6 +1,6 @@
 //! What is told of a move that fails and of a column left too high, and the items of it.
 ghost use Rattle.std.specs.Prelude.{◌≡◌, IfOk, OnOk, false};
-ghost use Rattle.mill_document.specs.Documents.{column_data, column_or_null, corners_data, ends_data, failure_data, leaf_data, length_or_null, put_obstacle, put_place, segment_data, test_name, triangle_data, triangle_or_null};
+ghost use Rattle.mill_document.specs.Documents.{column_data, column_or_null, corners_data, ends_data, failure_data, leaf_data, length_or_null, put_fixture, put_obstacle, put_place, segment_data, test_name, triangle_data, triangle_or_null};
 ghost use Rattle.serde_json.specs.Data.{string};
 ghost use Rattle.serde_json.specs.View.{members_view, view};
 ghost use Rattle.serde_json.specs.Written.{has_float};
@@ -19,6 +19,10 @@ pub(crate) enum Test {
     Gouge,
     /// Its holder hits the part.
     Holder,
+    /// Its cutter hits a fixture.
+    Fixture,
+    /// Its holder hits a fixture.
+    HolderFixture,
     /// It is a rapid whose cutter hits the stock.
     Rapid,
     /// It is a feed whose cutter cuts too deep into the stock.
@@ -65,6 +69,8 @@ pub(crate) struct Failure {
     pub test: Test,
     /// What of the part is in its way.
     pub triangle: Option<Triangle>,
+    /// The number of the fixture in its way, from 0.
+    pub fixture: Option<u32>,
     /// What of the stock is in its way.
     pub column: Option<Column>,
     /// The segment of the move that fails.
@@ -86,6 +92,7 @@ pub(crate) fn failure_value(
     let mut members = Map::new(alloc);
     add_place(&mut members, alloc, words, failure)?;
     add_obstacle(&mut members, alloc, unit, failure)?;
+    add_fixture(&mut members, alloc, failure.fixture)?;
     Ok(Value::from(members))
 }
 
@@ -142,6 +149,21 @@ fn add_obstacle(
     )
 }
 
+/// Adds the number of the fixture in its way, where one is.
+fn add_fixture(
+    members: &mut Map<String, Value>,
+    alloc: Global,
+    fixture: Option<u32>,
+) -> Result<(), AllocError>
+    ensures { OnOk result (members_view members.new.entries
+        ≡ put_fixture fixture (members_view members.old.entries)) }
+{
+    match fixture {
+        Some(number) => put(members, alloc, "box", Value::from(number)),
+        None => Ok(()),
+    }
+}
+
 fn test_value(alloc: Global, test: Test) -> Result<Value, AllocError>
     ensures { IfOk result (λ v. view v ≡ string (test_name test)) }
 {
@@ -155,6 +177,8 @@ fn test_text(test: Test) -> &'static str
         Test::Floor => "floor",
         Test::Gouge => "gouge",
         Test::Holder => "holder",
+        Test::Fixture => "fixture",
+        Test::HolderFixture => "holder-fixture",
         Test::Rapid => "rapid",
         Test::Cut => "cut",
         Test::HolderStock => "holder-stock",

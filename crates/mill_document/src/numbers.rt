@@ -1,6 +1,6 @@
 //! The numbers that a finding names.
 ghost use Rattle.std.specs.Prelude.{◌≡◌};
-ghost use Rattle.mill_document.specs.Details.{column_numbers as column_numbers_of, leaf_of as leaf_of_reason, test_of as test_of_reason, triangle_number as triangle_number_of};
+ghost use Rattle.mill_document.specs.Details.{column_numbers as column_numbers_of, fixture_number as fixture_number_of, leaf_of as leaf_of_reason, test_of as test_of_reason, triangle_number as triangle_number_of};
 ghost use Rattle.mill_report.specs.Findings.{move_of};
 
 use crate::failure::Test;
@@ -15,6 +15,8 @@ pub(crate) fn move_number(reason: &Reason) -> u64
         Reason::Floor { at }
         | Reason::Gouge { at, .. }
         | Reason::Holder { at, .. }
+        | Reason::Fixture { at, .. }
+        | Reason::HolderFixture { at, .. }
         | Reason::Rapid { at, .. }
         | Reason::Cut { at, .. }
         | Reason::HolderStock { at, .. } => at,
@@ -29,6 +31,8 @@ pub(crate) fn test_of(reason: &Reason) -> Test
     match *reason {
         Reason::Gouge { .. } => Test::Gouge,
         Reason::Holder { .. } => Test::Holder,
+        Reason::Fixture { .. } => Test::Fixture,
+        Reason::HolderFixture { .. } => Test::HolderFixture,
         Reason::Rapid { .. } => Test::Rapid,
         Reason::Cut { .. } => Test::Cut,
         Reason::HolderStock { .. } => Test::HolderStock,
@@ -42,6 +46,16 @@ pub(crate) fn triangle_number(reason: &Reason) -> Option<u32>
 {
     match *reason {
         Reason::Gouge { tri, .. } | Reason::Holder { tri, .. } => Some(tri),
+        _ => None,
+    }
+}
+
+/// The number of the fixture, where one is in the way.
+pub(crate) fn fixture_number(reason: &Reason) -> Option<u32>
+    ensures { result ≡ fixture_number_of reason.now }
+{
+    match *reason {
+        Reason::Fixture { fixture, .. } | Reason::HolderFixture { fixture, .. } => Some(fixture),
         _ => None,
     }
 }
@@ -65,6 +79,8 @@ pub(crate) fn leaf_of(reason: &Reason) -> Option<Leaf>
     match *reason {
         Reason::Gouge { leaf, .. }
         | Reason::Holder { leaf, .. }
+        | Reason::Fixture { leaf, .. }
+        | Reason::HolderFixture { leaf, .. }
         | Reason::Rapid { leaf, .. }
         | Reason::Cut { leaf, .. }
         | Reason::HolderStock { leaf, .. } => Some(leaf),

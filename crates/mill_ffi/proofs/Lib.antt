@@ -1,3 +1,4 @@
+pub mod Accepted
 pub mod Chains
 pub mod Fibers
 pub mod Nodes

@@ -9,6 +9,7 @@ use Rattle.mill_job.specs.Documents.{IsJobOf}
 use Rattle.mill_job.specs.declared.fault.JobFault.{JobFault}
 use Rattle.mill_job.specs.declared.fault.JobFault.TheVariants as job_fault
 use Rattle.mill_job.specs.declared.fields.JobFields.{JobFields}
+use Rattle.mill_load.specs.Programs.{rules_of}
 use Rattle.mill_ngc.specs.Programs.{program_of}
 use Rattle.mill_block.specs.declared.fault.NgcFault.{NgcFault}
 use Rattle.mill_block.specs.declared.fault.NgcFault.TheVariants as program_fault
@@ -31,11 +32,14 @@ use Rattle.mill_ffi.specs.Texts.{fault_of, line_of}
 
 -- nothing is told
 abbrev pub untold : RawVerdict
-untold = record { test = pos 0; most_left = pos 0; top = pos 0; height = pos 0; triangle = 0; row = 0; column = 0; depth = 0; leaf = 0; at = 0; moves = 0; columns = 0; line = 0 }
+untold = record { test = pos 0; most_left = pos 0; top = pos 0; height = pos 0; triangle = 0; row = 0; column = 0; depth = 0; leaf = 0; at = 0; moves = 0; columns = 0; line = 0; fixture = 0 }
 
--- the cutter, or the holder, doesn't pass a triangle or a column on a leaf of a move, by the test of this number
+-- the cutter, or the holder, doesn't pass a triangle, a fixture or a column on a leaf of a move, by the test of this number
 abbrev pub told_of_triangle : ℤ → ℕ → ℕ → Leaf → RawVerdict
 told_of_triangle test k t leaf = record untold { test = test; at = k; triangle = t; depth = leaf.d; leaf = leaf.k }
+
+abbrev pub told_of_fixture : ℤ → ℕ → ℕ → Leaf → RawVerdict
+told_of_fixture test k b leaf = record untold { test = test; at = k; fixture = b; depth = leaf.d; leaf = leaf.k }
 
 abbrev pub told_of_column : ℤ → ℕ → ℕ → ℕ → Leaf → RawVerdict
 told_of_column test k j i leaf = record untold { test = test; at = k; row = j; column = i; depth = leaf.d; leaf = leaf.k }
@@ -44,6 +48,8 @@ abbrev pub told_of_reason : Reason → RawVerdict
 told_of_reason (reason.Floor k) = record untold { test = pos 1; at = k }
 told_of_reason (reason.Gouge k t leaf) = told_of_triangle (pos 2) k t leaf
 told_of_reason (reason.Holder k t leaf) = told_of_triangle (pos 3) k t leaf
+told_of_reason (reason.Fixture k b leaf) = told_of_fixture (pos 8) k b leaf
+told_of_reason (reason.HolderFixture k b leaf) = told_of_fixture (pos 9) k b leaf
 told_of_reason (reason.Rapid k j i leaf) = told_of_column (pos 4) k j i leaf
 told_of_reason (reason.Cut k j i leaf) = told_of_column (pos 5) k j i leaf
 told_of_reason (reason.HolderStock k j i leaf) = told_of_column (pos 6) k j i leaf
@@ -68,7 +74,7 @@ pub record IsVerdictFor (job_text part_text program_text : List ℕ) (verdict : 
   pub part : List Tri
   pub moves : List Move
   pub setup_is : ReadsSetup job_text part_text job part
-  pub moves_are : program_of (home job) job.unit program_text ≡ Ok moves
+  pub moves_are : program_of (home job) job.unit (rules_of job) program_text ≡ Ok moves
   pub is : IsVerdict job part moves verdict
   pub safe : (count columns : ℕ) (left : ℤ) → verdict ≡ Accept count columns left → CutsSafely job part moves
   pub blocked : (why : Reason) → verdict ≡ Reject why → NamesLeaf job part (uncut job) moves why
@@ -99,9 +105,12 @@ line_of_program (program_fault.NotInProfile line letter number) = line
 line_of_program (program_fault.LateTool line) = line
 line_of_program (program_fault.Group line group) = line
 line_of_program (program_fault.Twice line letter) = line
+line_of_program (program_fault.Start line) = line
 line_of_program (program_fault.NoUnits line) = line
 line_of_program (program_fault.NoAbsolute line) = line
 line_of_program (program_fault.NoMotion line) = line
+line_of_program (program_fault.NoSpindle line) = line
+line_of_program (program_fault.NoFeed line) = line
 line_of_program (program_fault.OffGrid line) = line
 line_of_program (program_fault.OutOfRange line) = line
 line_of_program (program_fault.TooManyMoves line) = line
@@ -149,7 +158,7 @@ pub record IsRefusedProgram (job_text part_text program_text : List ℕ) (told :
   pub part : List Tri
   pub setup_is : ReadsSetup job_text part_text job part
   pub first : NgcFault
-  pub refused : program_of (home job) job.unit program_text ≡ Err first
+  pub refused : program_of (home job) job.unit (rules_of job) program_text ≡ Err first
   pub kind_ok : kind ≡ fault.Program
   pub told_ok : told ≡ record untold { line = line_of_program first }
 

@@ -1,9 +1,10 @@
-ghost use Rattle.std.specs.Prelude.{◌≡◌, ◌≢◌, ◌⊎◌, pos, length, IfOk, IfErr, OnErr};
+ghost use Rattle.std.specs.Prelude.{◌≡◌, ◌≢◌, ◌⊎◌, pos, false, length, IfOk, IfErr, OnErr};
 ghost use Rattle.mill_ffi.specs.Asked.{IsToldFor};
-ghost use Rattle.mill_ffi.specs.Plans.{IsPlanCause, IsPlanned, IsPlannedFor, IsUnplanned, IsUnread, fault_of_plan, told_of_plan, told_of_plan_fault, told_of_setup, unplanned};
+ghost use Rattle.mill_ffi.specs.Judged.{ReadsSetup};
+ghost use Rattle.mill_ffi.specs.Plans.{IsPlanCause, IsPlanned, IsPlannedFor, IsUnfed, IsUnplanned, fault_of_plan, told_of_plan, told_of_plan_fault, told_of_setup, unplanned};
 ghost use Rattle.mill_plan.specs.Plans.{answer_of};
 
-use crate::setup::{Stop, setup_from};
+use crate::setup::{Setup, Stop, job_from, setup_for};
 use mill_base::WantOfMemory;
 use mill_crew::Alone;
 use mill_ffi_data::{Fault, RawPlanned};
@@ -15,12 +16,13 @@ use std::alloc::Global;
 /// command `plan` stores it.
 ///
 /// The job's text is a TOML document, and the part's an ASCII STL, which is read in the job's unit
-/// and by its snap. With status 0 `program` has the text. It is as long as that has bytes: with an
-/// array of another length the status is that of the room. With these two statuses `told` has the
-/// numbers of the program. With any other it has the line of the part's fault, the height of a
-/// part that is too high, how many nodes a lattice has that has too many, or which column the plan
-/// leaves too high or the holder would touch; it has nothing else then, and is written with every
-/// status. With any status but 0 `program` is as it was.
+/// and by its snap. A job that asks for a spindle is refused as one that lacks a key, before the
+/// part is read: a plan names no feed. With status 0 `program` has the text. It is as long as that
+/// has bytes: with an array of another length the status is that of the room. With these two
+/// statuses `told` has the numbers of the program. With any other it has the line of the part's
+/// fault, the height of a part that is too high, how many nodes a lattice has that has too many, or
+/// which column the plan leaves too high or the holder would touch; it has nothing else then, and
+/// is written with every status. With any status but 0 `program` is as it was.
 ///
 /// Each call plans anew, and does all of the work on the calling thread.
 #[unsafe(no_mangle)]
@@ -82,13 +84,10 @@ fn plan_into(
 /// The plan for the texts, or why there is none.
 fn planned_for(alloc: Global, job: &[u8], part: &[u8]) -> Result<Planned, NoPlan>
     ensures is { IfOk result (λ planned. IsPlannedFor job.now part.now (answer_of planned)) }
-    ensures cause { IfErr result (λ stop. IsUnread job.now part.now stop.told stop.fault
+    ensures cause { IfErr result (λ stop. IsUnfed job.now part.now stop.told stop.fault
         ⊎ IsUnplanned job.now part.now stop.told stop.fault) }
 {
-    let setup = match setup_from(alloc, job, part) {
-        Ok(setup) => setup,
-        Err(stop) => return Err(unread(stop)),
-    };
+    let setup = fed_setup(alloc, job, part)?;
     let part = match SortedPart::new(alloc, setup.part) {
         Ok(part) => part,
         Err(WantOfMemory) => return Err(without_plan(PlanFault::WantOfMemory)),
@@ -96,6 +95,30 @@ fn planned_for(alloc: Global, job: &[u8], part: &[u8]) -> Result<Planned, NoPlan
     match plan(&Alone, alloc, &setup.job, &part) {
         Ok(planned) => Ok(planned),
         Err(fault) => Err(without_plan(fault)),
+    }
+}
+
+/// A job that asks for no spindle, and its part. The programs of one that does have to name a feed,
+/// which no key of a job names: it is refused as one that lacks a key, before its part is read.
+fn fed_setup(alloc: Global, job: &[u8], part: &[u8]) -> Result<Setup, NoPlan>
+    ensures reads { IfOk result (λ setup.
+        ReadsSetup job.now part.now setup.job.fields setup.part) }
+    ensures still { IfOk result (λ setup. setup.job.fields.spindle ≡ false) }
+    ensures cause { IfErr result (λ stop. IsUnfed job.now part.now stop.told stop.fault) }
+{
+    let job = match job_from(alloc, job) {
+        Ok(job) => job,
+        Err(stop) => return Err(unread(stop)),
+    };
+    if job.fields.spindle {
+        return Err(NoPlan {
+            fault: Fault::JobMissing,
+            told: nothing(),
+        });
+    }
+    match setup_for(alloc, job, part) {
+        Ok(setup) => Ok(setup),
+        Err(stop) => Err(unread(stop)),
     }
 }
 

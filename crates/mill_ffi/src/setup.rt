@@ -3,11 +3,12 @@ ghost use Rattle.std.specs.Prelude.{◌≡◌, ◌≢◌, Ok, Err, IfOk, IfErr, 
 ghost use Rattle.mill_base.specs.Covers.{IsUnder};
 ghost use Rattle.mill_base.specs.Ranges.{IsInUnitRange};
 ghost use Rattle.mill_block.specs.declared.fault.NgcFault.TheVariants as program_fault;
-ghost use Rattle.mill_ffi.specs.inner.Reading.{IsJobCause, IsPartCause, IsProgramCause, IsHighFor, IsPartText};
+ghost use Rattle.mill_ffi.specs.inner.Reading.{IsFitPart, IsHighFor, IsJobCause, IsPartCause, IsPartText, IsProgramCause, IsUnfitPart};
 ghost use Rattle.mill_ffi.specs.Judged.{IsSetupCause, ReadsSetup, fault_of_job, line_of_program, untold};
 ghost use Rattle.mill_ffi_data.specs.declared.fault.Fault.TheVariants as fault;
 ghost use Rattle.mill_job.specs.Columns.{home};
 ghost use Rattle.mill_job.specs.Documents.{IsJobOf};
+ghost use Rattle.mill_load.specs.Programs.{rules_of};
 ghost use Rattle.mill_ngc.specs.Pieces.{AreSound};
 ghost use Rattle.mill_ngc.specs.Programs.{program_of};
 
@@ -15,7 +16,8 @@ use crate::text::{fault_from, line_from};
 use mill_base::{Move, Pt3, Unit, WantOfMemory};
 use mill_ffi_data::{Fault, RawVerdict};
 use mill_job::{Job, JobFault, read_job};
-use mill_ngc::{NgcFault, Reader};
+use mill_load::rules_for;
+use mill_ngc::{NgcFault, Reader, Rules};
 use mill_part::Part;
 use mill_stl::read_stl;
 use std::alloc::Global;
@@ -56,6 +58,7 @@ pub fn nothing() -> RawVerdict
         moves: 0,
         columns: 0,
         line: 0,
+        fixture: 0,
     }
 }
 
@@ -74,6 +77,16 @@ pub fn setup_from(alloc: Global, job_text: &[u8], part_text: &[u8]) -> Result<Se
         IsSetupCause job_text.now part_text.now stop.told stop.fault) }
 {
     let job = job_from(alloc, job_text)?;
+    setup_for(alloc, job, part_text)
+}
+
+/// A job, and the part of a text for it.
+pub fn setup_for(alloc: Global, job: Job, part_text: &[u8]) -> Result<Setup, Stop>
+    ensures same { IfOk result (λ setup. setup.job.fields ≡ job.fields) }
+    ensures part { IfOk result (λ setup. IsFitPart job.fields part_text.now setup.part) }
+    ensures cause { IfErr result (λ stop.
+        IsUnfitPart job.fields part_text.now stop.told stop.fault) }
+{
     let part = part_for(alloc, &job, part_text)?;
     match height_over(&job, &part) {
         None => Ok(Setup { job, part }),
@@ -87,7 +100,8 @@ pub fn setup_from(alloc: Global, job_text: &[u8], part_text: &[u8]) -> Result<Se
     }
 }
 
-fn job_from(alloc: Global, text: &[u8]) -> Result<Job, Stop>
+/// The job of a text.
+pub fn job_from(alloc: Global, text: &[u8]) -> Result<Job, Stop>
     ensures reads { IfOk result (λ job. IsJobOf text.now (Ok job.fields)) }
     ensures cause { IfErr result (λ stop. IsJobCause text.now stop.told stop.fault) }
 {
@@ -128,16 +142,17 @@ fn height_over(job: &Job, part: &Part) -> Option<i32>
     }
 }
 
-/// The moves of a program's text for a job.
+/// The moves of a program's text for a job, by the job's rules.
 pub fn moves_for(alloc: Global, job: &Job, text: &[u8]) -> Result<Vec<Move>, Stop>
     ensures reads { IfOk result (λ moves.
-        program_of (home job.now.fields) job.now.fields.unit text.now ≡ Ok moves.items) }
+        program_of (home job.now.fields) job.now.fields.unit (rules_of job.now.fields)
+        text.now ≡ Ok moves.items) }
     ensures sound { IfOk result (λ moves.
-        AreSound (home job.now.fields) job.now.fields.unit moves.items) }
+        AreSound (home job.now.fields) job.now.fields.unit (rules_of job.now.fields) moves.items) }
     ensures cause { IfErr result (λ stop.
         IsProgramCause job.now.fields text.now stop.told stop.fault) }
 {
-    match moves_from(alloc, job.home(), job.fields.unit, text) {
+    match moves_from(alloc, job.home(), job.fields.unit, rules_for(job), text) {
         Ok(moves) => Ok(moves),
         Err(NgcFault::WantOfMemory) => Err(Stop::from(WantOfMemory)),
         Err(fault) => Err(Stop {
@@ -151,15 +166,21 @@ pub fn moves_for(alloc: Global, job: &Job, text: &[u8]) -> Result<Vec<Move>, Sto
 }
 
 /// The moves of a program's text from a point on, in a unit.
-fn moves_from(alloc: Global, start: Pt3, unit: Unit, text: &[u8]) -> Result<Vec<Move>, NgcFault>
+fn moves_from(
+    alloc: Global,
+    start: Pt3,
+    unit: Unit,
+    rules: Rules,
+    text: &[u8],
+) -> Result<Vec<Move>, NgcFault>
     requires start_ok { IsInUnitRange unit start }
-    ensures reads { IfOk result (λ moves. program_of start unit text.now ≡ Ok moves.items) }
-    ensures sound { IfOk result (λ moves. AreSound start unit moves.items) }
+    ensures reads { IfOk result (λ moves. program_of start unit rules text.now ≡ Ok moves.items) }
+    ensures sound { IfOk result (λ moves. AreSound start unit rules moves.items) }
     ensures fault { IfErr result (λ first. first ≢ program_fault.WantOfMemory
-        → program_of start unit text.now ≡ Err first) }
+        → program_of start unit rules text.now ≡ Err first) }
 {
     let mut moves = Vec::new(alloc);
-    let mut reader = Reader::new(start, unit);
+    let mut reader = Reader::new(start, unit, rules);
     reader.feed(text, &mut moves)?;
     reader.finish(&mut moves)?;
     Ok(moves)
@@ -191,9 +212,12 @@ fn line_of(fault: NgcFault) -> u64
         NgcFault::LateTool { line } => line,
         NgcFault::Group { line, .. } => line,
         NgcFault::Twice { line, .. } => line,
+        NgcFault::Start { line } => line,
         NgcFault::NoUnits { line } => line,
         NgcFault::NoAbsolute { line } => line,
         NgcFault::NoMotion { line } => line,
+        NgcFault::NoSpindle { line } => line,
+        NgcFault::NoFeed { line } => line,
         NgcFault::OffGrid { line } => line,
         NgcFault::OutOfRange { line } => line,
         NgcFault::TooManyMoves { line } => line,

@@ -1,6 +1,6 @@
 ghost use Rattle.std.specs.Prelude.{◌≡◌, ◌≢◌, pos, IfOk, IfErr};
 ghost use Rattle.mill_ffi.specs.Asked.{IsToldFor};
-ghost use Rattle.mill_ffi.specs.Judged.{IsJudged, IsVerdictCause, IsVerdictFor, told_of_column, told_of_reason, told_of_triangle, told_of_verdict};
+ghost use Rattle.mill_ffi.specs.Judged.{IsJudged, IsVerdictCause, IsVerdictFor, told_of_column, told_of_fixture, told_of_reason, told_of_triangle, told_of_verdict};
 
 use crate::setup::{Stop, moves_for, nothing, setup_from};
 use mill_crew::Alone;
@@ -14,9 +14,10 @@ use std::alloc::Global;
 /// that the program is accepted.
 ///
 /// The job's text is a TOML document, the part's an ASCII STL, which is read in the job's unit and
-/// by its snap, and the program's a G-code that starts at the job's home. With status 0 `told` has
-/// the verdict; with any other it has the line of a text's fault, or the height of a part that is
-/// too high. It has nothing else then, and is written with every status.
+/// by its snap, and the program's a G-code, which is read from the job's home and by its start and
+/// spindle. With status 0 `told` has the verdict; with any other it has the line of a text's fault,
+/// or the height of a part that is too high. It has nothing else then, and is written with every
+/// status.
 #[unsafe(no_mangle)]
 pub extern "C" fn camtool_verify(
     alloc: Global,
@@ -84,6 +85,8 @@ fn raw_reason(reason: Reason) -> RawVerdict
         },
         Reason::Gouge { at, tri, leaf } => at_triangle(2, at, tri, leaf),
         Reason::Holder { at, tri, leaf } => at_triangle(3, at, tri, leaf),
+        Reason::Fixture { at, fixture, leaf } => at_fixture(8, at, fixture, leaf),
+        Reason::HolderFixture { at, fixture, leaf } => at_fixture(9, at, fixture, leaf),
         Reason::Rapid { at, row, col, leaf } => at_column(4, at, row, col, leaf),
         Reason::Cut { at, row, col, leaf } => at_column(5, at, row, col, leaf),
         Reason::HolderStock { at, row, col, leaf } => at_column(6, at, row, col, leaf),
@@ -104,6 +107,19 @@ fn at_triangle(test: i32, at: u64, triangle: u32, leaf: Leaf) -> RawVerdict
         test,
         at,
         triangle,
+        depth: leaf.d,
+        leaf: leaf.k,
+        ..nothing()
+    }
+}
+
+fn at_fixture(test: i32, at: u64, fixture: u32, leaf: Leaf) -> RawVerdict
+    ensures { result ≡ told_of_fixture test at fixture leaf }
+{
+    RawVerdict {
+        test,
+        at,
+        fixture,
         depth: leaf.d,
         leaf: leaf.k,
         ..nothing()

@@ -80,13 +80,14 @@ pub struct RawRun {
 }
 
 /// What is said of a program, in numbers, or what is told of a text that is refused. What isn't told is 0.
-/// Moves, triangles, rows and columns are counted from 0, and lengths are in the job's unit.
+/// Moves, triangles, fixtures, rows and columns are counted from 0, and lengths are in the job's unit.
 #[repr(C)]
 #[derive(Clone, Copy, Debug, PartialEq, Eq)]
 pub struct RawVerdict {
-    /// The first test that fails; 0 where none does, and the program is accepted. Of a move: 1 that it
-    /// stays over the floor, 2 that the cutter passes the part, 3 that the holder does, 4 that a rapid
-    /// passes the stock, 5 that a feed cuts no deeper than it may, 6 that the holder passes the stock; 7
+    /// The first test that fails; 0 where none does, and the program is accepted. Of a move: 1 that
+    /// it stays over the floor, 2 that the cutter passes the part, 3 that the holder does, 8 that
+    /// the cutter passes the fixtures, 9 that the holder does, 4 that a rapid passes the stock, 5
+    /// that a feed cuts no deeper than it may, 6 that the holder passes the stock, in this order; 7
     /// that after the last move no column is left too high.
     pub test: i32,
     /// How much is left at most on a column of an accepted program, over what covers it.
@@ -113,6 +114,8 @@ pub struct RawVerdict {
     pub columns: u64,
     /// The line of a refused text's first fault, counted from 1; each LF ends one.
     pub line: u64,
+    /// The fixture that the move doesn't pass.
+    pub fixture: u32,
 }
 
 /// The nodes over an area: the positions in x are `x0`, `x0 + step`, `x0 + 2 * step` and so on up to `x1`,

@@ -13,7 +13,9 @@ pub mod SolidFacts
 pub mod WithCutter
 mod Stored
 mod UnknownKeys
-mod Zeros
+mod Blanks
+mod Under
+pub mod Boxes
 mod StepFaults
 mod InTurn
 mod ListMeaning

@@ -1,18 +1,21 @@
 -- The solids of a job that asks for no slack, no overcut and no graze are its cutter, at the tool's tip, and its holder.
 use Rattle.std.proofs.Common.{◌≡◌, ◌∙◌, ℕ, ◌/◌, ap, refl, sym, arith}
 use Rattle.std.proofs.lemmas.Int.{ints}
-use Rattle.std.specs.Prelude.{ℤ, pos, neg_ℤ, nat_abs, ◌+ℤ◌, ◌-ℤ◌, ◌*ℤ◌, ◌≤ℤ◌}
+use Rattle.std.specs.Prelude.{ℤ, pos, neg_ℤ, nat_abs, ◌+ℤ◌, ◌-ℤ◌, ◌*ℤ◌, ◌<ℤ◌, ◌≤ℤ◌, Option, Some, None, IfSome}
 use Rattle.mill_base.proofs.Integers.{zero-mul-ℤ}
 use Rattle.mill_base.specs.Numbers.{ceil_div, square}
-use Rattle.mill_base.specs.Solids.{Solid, at_tip}
+use Rattle.mill_base.specs.Sizes.{radius_of}
+use Rattle.mill_base.specs.Solids.{IsSolid, Solid, at_tip}
 use Rattle.mill_base.specs.declared.cutter.Cutter.{Cutter}
 use Rattle.mill_base.specs.declared.cutter.Cutter.TheVariants.{Flat, Ball, Cone}
-use Rattle.mill_job.specs.Jobs.{IsJob}
+use Rattle.mill_base.specs.declared.limits.TheConstants.{MAX_RADIUS}
+use Rattle.mill_job.specs.Jobs.{HolderHasRoom, IsHeldOff, IsJob}
 use Rattle.mill_job.specs.Slack.{graze_of}
 use Rattle.mill_job.specs.Solids.{deeper_in, inner_of, stock_solid_of}
 use Rattle.mill_job.specs.declared.fields.JobFields.{JobFields}
 use Rattle.mill_job.proofs.Room.{room_of}
 use Rattle.mill_margin.specs.Margins.{cone_offset_of, offset_of, shrunk}
+use Rattle.mill_margin.proofs.Sizing.{radius_ok}
 
 no_div : (n : ℕ) → 0 / n ≡ 0
 no_div n = omega arith
@@ -54,6 +57,24 @@ pub bare_deeper : (cutter : Cutter) → deeper_in cutter (pos 0) (pos 0) ≡ at_
 bare_deeper (Flat r) = ap (λ (x : ℤ). at_tip (Flat x)) (none_both r)
 bare_deeper (Ball r) = ap (λ (x : ℤ). at_tip (Ball x)) (none_both r)
 bare_deeper (Cone r a b) = same_cone a b _ r _ (none_both r) (both_by (offset_of (Cone r a b) (pos 0)) (offset_zero (Cone r a b)))
+
+-- a holder over the tip is held off without a slack
+pub no_slack_holder : (job : JobFields) → job.slack ≡ pos 0 → IfSome job.holder IsSolid → IfSome job.holder (λ holder. (pos 1) ≤ℤ holder.lift) → HolderHasRoom job
+unfolding HolderHasRoom
+no_slack_holder job none ok over = held job.holder job.slack none ok over
+  where
+    higher : (lift off : ℤ) → (pos 1) ≤ℤ lift → off ≡ pos 0 → off <ℤ lift
+    higher lift off least e = omega (arith, ints, least, e)
+
+    no_wider : (r slack most : ℤ) → r ≤ℤ most → slack ≡ pos 0 → (r +ℤ slack) ≤ℤ most
+    no_wider r slack most within e = omega (arith, ints, within, e)
+
+    held : (holder : Option Solid) (slack : ℤ) → slack ≡ pos 0 → IfSome holder IsSolid → IfSome holder (λ solid. (pos 1) ≤ℤ solid.lift) → IfSome holder (IsHeldOff slack)
+    held None slack none ok over = tt
+    held (Some solid) slack none ok over = record {
+      over_tip = higher solid.lift (offset_of solid.cutter slack) over (ap (offset_of solid.cutter) none ∙ offset_zero solid.cutter);
+      slack_around = no_wider (radius_of solid.cutter) slack MAX_RADIUS (radius_ok solid.cutter ok.cutter_ok).within none;
+    }
 
 -- without a graze there is no slack
 pub no_slack : (job : JobFields) → IsJob job → graze_of job ≡ pos 0 → job.slack ≡ pos 0

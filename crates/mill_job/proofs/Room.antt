@@ -1,9 +1,10 @@
--- The facts that the tests of a job's slack, its overcut and its graze tell.
+-- The facts that the tests of a job's slack, its overcut, its graze and its fixtures tell.
 use Rattle.std.proofs.Common.{◌≡◌, refl, Bool, true, false, ◌||◌, arith}
 use Rattle.std.proofs.lemmas.Int.{ints}
-use Rattle.std.specs.Prelude.{ℤ, ◌+ℤ◌, ◌<ℤ◌, ◌≤ℤ◌, IfSome, int_le, int_lt}
+use Rattle.std.specs.Prelude.{ℤ, ◌+ℤ◌, ◌<ℤ◌, ◌≤ℤ◌, All, IfSome, int_le, int_lt}
 use Rattle.mill_base.specs.Sizes.{radius_of}
 use Rattle.mill_base.specs.declared.cutter.Cutter.{Cutter}
+use Rattle.mill_job.specs.Fixtures.{IsUnder}
 use Rattle.mill_job.specs.Jobs.{HasRoom, HolderHasRoom, IsHeldOff, IsRoomy}
 use Rattle.mill_job.specs.Slack.{graze_of, is_shallow, is_tight}
 use Rattle.mill_job.specs.declared.fields.JobFields.{JobFields}
@@ -35,9 +36,10 @@ is_roomy job cutter tight overcut graze shallow =
     }
 
 -- what it is to have room
-pub has_room : (job : JobFields) (cutter : Cutter) → IsRoomy job.slack job.overcut (graze_of job) cutter → (job.top +ℤ offset_of cutter job.slack) ≤ℤ job.clear → HasRoom job cutter
+pub has_room : (job : JobFields) (cutter : Cutter) → IsRoomy job.slack job.overcut (graze_of job) cutter → (job.top +ℤ offset_of cutter job.slack) ≤ℤ job.clear
+    → All (IsUnder job.clear (offset_of cutter job.slack)) job.keep_out → HasRoom job cutter
 unfolding HasRoom
-has_room job cutter roomy over = (roomy, over)
+has_room job cutter roomy over fixtures = (roomy, (over, fixtures))
 
 pub room_of : (job : JobFields) (cutter : Cutter) → HasRoom job cutter → IsRoomy job.slack job.overcut (graze_of job) cutter
 unfolding HasRoom
@@ -45,7 +47,11 @@ room_of job cutter room = room.0
 
 pub over_stock : (job : JobFields) (cutter : Cutter) → HasRoom job cutter → (job.top +ℤ offset_of cutter job.slack) ≤ℤ job.clear
 unfolding HasRoom
-over_stock job cutter room = room.1
+over_stock job cutter room = room.1.0
+
+pub over_fixtures : (job : JobFields) (cutter : Cutter) → HasRoom job cutter → All (IsUnder job.clear (offset_of cutter job.slack)) job.keep_out
+unfolding HasRoom
+over_fixtures job cutter room = room.1.1
 
 pub holder_room_of : (job : JobFields) → HolderHasRoom job → IfSome job.holder (IsHeldOff job.slack)
 unfolding HolderHasRoom

@@ -51,6 +51,11 @@ pub stored_over : (unit : Unit) {top z : ℤ} → Within (greatest_of unit) top 
     → to_z w32 (of_z w32 (to_z w32 (of_z w32 top) +ℤ to_z w32 (of_z w32 z))) ≡ top +ℤ z
 stored_over unit t h = omega (arith, ints, greatest_of-le unit)
 
+-- and a height less it
+pub stored_under : (unit : Unit) {clear z : ℤ} → Within (greatest_of unit) clear → IsFrom (pos 0) (pos 8500) z
+    → to_z w32 (of_z w32 (to_z w32 (of_z w32 clear) -ℤ to_z w32 (of_z w32 z))) ≡ clear -ℤ z
+stored_under unit t h = omega (arith, ints, greatest_of-le unit)
+
 -- and a radius with a slack around it
 pub stored_around : {r s : ℤ} → HasRadius r MAX_RADIUS → IsFrom (pos 0) MAX_SLACK s → to_z w32 (of_z w32 (to_z w32 (of_z w32 r) +ℤ to_z w32 (of_z w32 s))) ≡ r +ℤ s
 stored_around size h = omega (arith, ints, size, h)

@@ -41,6 +41,7 @@ is_job_with job cutter ok fits = record {
   slack_ok = ok.slack_ok;
   overcut_ok = ok.overcut_ok;
   graze_ok = ok.graze_ok;
+  keep_out_ok = ok.keep_out_ok;
   room = room_with job cutter cutter fits.room;
   holder_room = holder_room_with job cutter ok.holder_room;
 }

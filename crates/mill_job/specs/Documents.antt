@@ -13,6 +13,8 @@ use Rattle.mill_decimal.specs.declared.snap.Snap.{Snap}
 use Rattle.mill_decimal.specs.declared.snap.Snap.TheVariants.{Nearest, Exact}
 use Rattle.mill_job.specs.Columns.{row_count, column_count}
 use Rattle.mill_job.specs.Cutters.{cutter_faults, cutter_of, shape_fault, slope_fault}
+use Rattle.mill_job.specs.Fixtures.{fixtures_at, fixtures_fault, is_under}
+use Rattle.mill_job.specs.Habits.{flag_at, flag_fault, start_of, start_texts}
 use Rattle.mill_job.specs.Holders.{holder_fault, holder_of, is_narrow}
 use Rattle.mill_job.specs.Slack.{graze_of, is_holder_close, is_low, is_shallow, is_tight}
 use Rattle.mill_job.specs.Keys.{name_of, every_key, unknown_but}
@@ -22,6 +24,7 @@ use Rattle.mill_job.specs.declared.limits.TheConstants.{MAX_DISTANCE, MAX_GRAZE,
 use Rattle.mill_job.specs.declared.key.Key.TheVariants as key
 use Rattle.mill_job.specs.declared.fault.JobFault.{JobFault}
 use Rattle.mill_job.specs.declared.fault.JobFault.TheVariants.{Syntax, Unknown, Relation, WantOfMemory}
+use Rattle.mill_margin.specs.Margins.{offset_of}
 
 -- the texts of the units
 abbrev pub unit_texts : List (List ℕ)
@@ -65,6 +68,9 @@ key_faults_in unit ms =
     ∷ number_fault_if_there key.Slack (pos 0) MAX_SLACK ms
     ∷ number_fault_if_there key.Overcut (pos 0) MAX_OVERCUT ms
     ∷ number_fault_if_there key.Graze (pos 0) MAX_GRAZE ms
+    ∷ fixtures_fault unit ms
+    ∷ text_fault_if_there key.Start start_texts ms
+    ∷ flag_fault key.Spindle ms
     ∷ []
 
 -- what is wrong with each key, in the format's order: the unit comes first, since the ranges of others are by it
@@ -114,6 +120,9 @@ job_with unit ms = record {
   slack = number_or key.Slack (pos 0) ms;
   overcut = number_or key.Overcut (pos 0) ms;
   graze = number_given key.Graze ms;
+  keep_out = fixtures_at ms;
+  start = start_of ms;
+  spindle = flag_at key.Spindle ms;
 }
 
 -- the same in the document's unit
@@ -137,6 +146,10 @@ slack_faults job cutter =
     ∷ fault_if (is_shallow cutter job.slack (graze_of job)) (Relation key.Graze key.Slack)
     ∷ []
 
+-- a cutter with the slack around it passes over each of the job's fixtures at the clear height
+abbrev pub are_under : JobFields → Cutter → Bool
+are_under job cutter = list_all (is_under job.clear (offset_of cutter job.slack)) job.keep_out
+
 -- what is wrong between a job's numbers, in order
 abbrev pub relation_faults : JobFields → List (Option JobFault)
 relation_faults job =
@@ -150,6 +163,7 @@ relation_faults job =
     ∷ slack_faults job job.cutter
     ++ fault_if (is_holder_close job.slack job.holder) (Relation key.Slack key.Stickout)
     ∷ fault_if (is_low job job.cutter) (Relation key.Slack key.Clear)
+    ∷ fault_if (not (are_under job job.cutter)) (Relation key.KeepOut key.Clear)
     ∷ []
 
 -- what is wrong between another cutter and a job's numbers, in order
@@ -159,6 +173,7 @@ fit_faults job cutter =
     ∷ fault_if (is_narrow (radius_of cutter) job.holder) (Relation key.Radius key.HolderRadius)
     ∷ slack_faults job cutter
     ++ fault_if (is_low job cutter) (Relation key.Slack key.Clear)
+    ∷ fault_if (not (are_under job cutter)) (Relation key.KeepOut key.Clear)
     ∷ []
 
 -- the document's first fault: an unknown key, a key's own fault, one between the cutter's keys, one between the others

@@ -8,6 +8,7 @@ use Rattle.mill_base.specs.Units.{greatest_of}
 use Rattle.mill_base.specs.declared.cutter.Cutter.{Cutter}
 use Rattle.mill_base.specs.declared.tool.Tool.{Tool}
 use Rattle.mill_job.specs.Columns.{row_count, column_count}
+use Rattle.mill_job.specs.Fixtures.{AreFixtures, IsUnder}
 use Rattle.mill_job.specs.Slack.{graze_of}
 use Rattle.mill_job.specs.Solids.{holder_solid_of, outer_of, part_solid_of}
 use Rattle.mill_job.specs.Tables.{IsPlace}
@@ -49,9 +50,11 @@ pub record IsHeldOff (slack : ℤ) (holder : Solid) : Type 0 where
   pub over_tip : offset_of holder.cutter slack <ℤ holder.lift
   pub slack_around : (radius_of holder.cutter +ℤ slack) ≤ℤ MAX_RADIUS
 
--- the job's slack, its overcut and its graze fit a cutter, and with the slack around it the cutter stays over the stock at the clear height
+-- the job's slack, its overcut and its graze fit a cutter, and with the slack around it the cutter stays over the stock and over each fixture at the clear height
 unfoldable pub HasRoom : JobFields → Cutter → Type 0
-HasRoom job cutter = IsRoomy job.slack job.overcut (graze_of job) cutter × ((job.top +ℤ offset_of cutter job.slack) ≤ℤ job.clear)
+HasRoom job cutter =
+    IsRoomy job.slack job.overcut (graze_of job) cutter
+    × (((job.top +ℤ offset_of cutter job.slack) ≤ℤ job.clear) × All (IsUnder job.clear (offset_of cutter job.slack)) job.keep_out)
 
 -- the slack fits the job's holder, if it has one
 unfoldable pub HolderHasRoom : JobFields → Type 0
@@ -93,6 +96,7 @@ pub record IsJob (job : JobFields) : Type 0 where
   pub slack_ok : IsFrom (pos 0) MAX_SLACK job.slack
   pub overcut_ok : IsFrom (pos 0) MAX_OVERCUT job.overcut
   pub graze_ok : IfSome job.graze (IsFrom (pos 0) MAX_GRAZE)
+  pub keep_out_ok : AreFixtures job.unit job.keep_out
   pub room : HasRoom job job.cutter
   pub holder_room : HolderHasRoom job
 

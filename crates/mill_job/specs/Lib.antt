@@ -10,6 +10,9 @@ pub mod Solids
 pub mod Documents
 pub mod NoUnit
 pub mod Filled
+pub mod Blank
+pub mod Fixtures
+pub mod Habits
 pub mod Steps
 pub mod Lists
 pub mod inner

@@ -14,7 +14,7 @@ use mill_base::{Box2, Unit};
 use toml::{Table, Value};
 
 /// Whether each value is a whole number.
-fn are_integers(values: &[Value]) -> bool
+pub fn are_integers(values: &[Value]) -> bool
     ensures { result ≡ is_some (integers (items_view values.now)) }
 {
     for value in values {
@@ -26,7 +26,7 @@ fn are_integers(values: &[Value]) -> bool
 }
 
 /// What is wrong with an array that hasn't the right length.
-fn misfit(values: &[Value], key: Key) -> JobFault
+pub fn misfit(values: &[Value], key: Key) -> JobFault
     ensures { result ≡ misfit_of key (integers (items_view values.now)) }
 {
     if are_integers(values) {
@@ -45,19 +45,21 @@ fn is_ordered(area: Box2) -> bool
     area.x0 <= area.x1 && area.y0 <= area.y1
 }
 
-/// The rectangle with these corners.
-fn corners(x0: i64, y0: i64, x1: i64, y1: i64, unit: Unit) -> Result<Box2, JobFault>
-    ensures value { result ≡ checked (kind_fault Key.Area (is_area unit) (Some (x0 ∷ y0 ∷ x1 ∷ y1 ∷ []))) (record { x0 = x0; y0 = y0; x1 = x1; y1 = y1 }) }
+/// The rectangle with these corners, as the value at a key.
+pub fn corners(x0: i64, y0: i64, x1: i64, y1: i64, key: Key, unit: Unit) -> Result<Box2, JobFault>
+    ensures value { result ≡
+        checked (kind_fault key (is_area unit) (Some (x0 ∷ y0 ∷ x1 ∷ y1 ∷ [])))
+        (record { x0 = x0; y0 = y0; x1 = x1; y1 = y1 }) }
     ensures in_range { IfOk result (IsArea unit) }
 {
     let area = Box2 {
-        x0: as_coordinate(x0, Key::Area, unit)?,
-        y0: as_coordinate(y0, Key::Area, unit)?,
-        x1: as_coordinate(x1, Key::Area, unit)?,
-        y1: as_coordinate(y1, Key::Area, unit)?,
+        x0: as_coordinate(x0, key, unit)?,
+        y0: as_coordinate(y0, key, unit)?,
+        x1: as_coordinate(x1, key, unit)?,
+        y1: as_coordinate(y1, key, unit)?,
     };
     if !is_ordered(area) {
-        return Err(JobFault::Range(Key::Area));
+        return Err(JobFault::Range(key));
     }
     Ok(area)
 }
@@ -86,7 +88,7 @@ fn area_in(values: &[Value], unit: Unit) -> Result<Box2, JobFault>
     let Some((x0, y0, x1, y1)) = four(&values[0], &values[1], &values[2], &values[3]) else {
         return Err(JobFault::WrongKind(Key::Area));
     };
-    corners(x0, y0, x1, y1, unit)
+    corners(x0, y0, x1, y1, Key::Area, unit)
 }
 
 /// The rectangle at `area`.

@@ -1,3 +1,5 @@
+use crate::fixtures::Fixtures;
+use crate::habits::Start;
 use crate::levels::Levels;
 use mill_base::{Box2, Cutter, Solid, Unit};
 use mill_decimal::Snap;
@@ -66,4 +68,12 @@ pub struct JobFields {
     /// How deep a stock point may lie inside the cutter and be shaved off by a rapid, and count as
     /// no depth, from 0 to 500; with `None` it is as [`Job::graze`](crate::Job::graze) says.
     pub graze: Option<i32>,
+    /// What stands on the machine beside the stock, as clamps, a vice or pins, at most 64 boxes,
+    /// each from below up to its height. The cutter passes over all of them at the clear height,
+    /// with the slack around it.
+    pub keep_out: Fixtures,
+    /// From where a program starts.
+    pub start: Start,
+    /// Whether a program has to start the spindle, and to say how fast it feeds, before it feeds.
+    pub spindle: bool,
 }

@@ -9,7 +9,7 @@ use crate::fault::JobFault;
 use crate::fields::JobFields;
 use crate::job::Job;
 use crate::key::Key;
-use crate::slack::{has_low_clear, slack_fault};
+use crate::slack::{clears_fixtures, has_low_clear, slack_fault};
 use mill_base::Cutter;
 
 /// Whether the job has a holder that isn't wider than a cutter.
@@ -26,8 +26,8 @@ pub fn has_narrow_holder(job: &JobFields, cutter: &Cutter) -> bool
 
 impl Job {
     /// The first of the job's relations that fails with another cutter: its band is over the
-    /// radius, its holder isn't wider, or the cutter has no room for its slack, its overcut or its
-    /// graze.
+    /// radius, its holder isn't wider, the cutter has no room for its slack, its overcut or its
+    /// graze, or it doesn't pass over its stock or its fixtures at the clear height.
     pub fn cutter_fault(&self, cutter: &Cutter) -> Option<JobFault>
         requires { IsCutter cutter.now }
         ensures value { result ≡ first (fit_faults self.now.fields cutter.now) }
@@ -44,6 +44,9 @@ impl Job {
         }
         if has_low_clear(&self.fields, cutter) {
             return Some(JobFault::Relation(Key::Slack, Key::Clear));
+        }
+        if !clears_fixtures(&self.fields, cutter) {
+            return Some(JobFault::Relation(Key::KeepOut, Key::Clear));
         }
         None
     }

@@ -9,11 +9,14 @@ ghost use Rattle.mill_job.specs.inner.Ranged.{AreExtras, ArePaths, IsMeasure, Is
 use crate::arrays::{area, home, levels};
 use crate::fault::JobFault;
 use crate::fields::Place;
+use crate::fixtures::Fixtures;
+use crate::habits::Start;
 use crate::holder::holder;
+use crate::keep_out::keep_out;
 use crate::key::Key;
 use crate::levels::Levels;
 use crate::limits::{MAX_DISTANCE, MAX_GRAZE, MAX_OVERCUT, MAX_SLACK};
-use crate::values::{coordinate, depth, number, number_if_there, number_or, snap};
+use crate::values::{coordinate, depth, flag, number, number_if_there, number_or, snap, start};
 use mill_base::{Box2, Solid, Unit};
 use mill_decimal::Snap;
 use toml::Table;
@@ -58,6 +61,9 @@ pub struct Extras {
     pub slack: i32,
     pub overcut: i32,
     pub graze: Option<i32>,
+    pub keep_out: Fixtures,
+    pub start: Start,
+    pub spindle: bool,
 }
 
 /// Where the document's stock stands, and from where programs start.
@@ -122,5 +128,8 @@ pub fn extras_in(table: &Table, unit: Unit) -> Result<Extras, JobFault>
         slack: number_or(table, Key::Slack, 0, MAX_SLACK, 0)?,
         overcut: number_or(table, Key::Overcut, 0, MAX_OVERCUT, 0)?,
         graze: number_if_there(table, Key::Graze, 0, MAX_GRAZE)?,
+        keep_out: keep_out(table, unit)?,
+        start: start(table)?,
+        spindle: flag(table, Key::Spindle)?,
     })
 }

@@ -4,6 +4,7 @@ ghost use Rattle.mill_job.specs.Jobs.{IsJob};
 ghost use Rattle.mill_job.specs.Solids.{solids_of};
 
 use crate::fields::JobFields;
+use crate::fixtures::Fixture;
 use crate::positions::{count, position};
 use crate::slack::graze;
 use crate::solids::{Solids, solids_by};
@@ -20,16 +21,18 @@ pub struct Job {
 }
 
 impl Job {
-    ghost use Rattle.std.specs.Prelude.{◌≡◌, ◌+◌, ◌<◌, ◌≤◌, ◌*◌};
+    ghost use Rattle.std.specs.Prelude.{◌≡◌, ◌+◌, ◌<◌, ◌≤◌, ◌*◌, All, length};
     ghost use Rattle.mill_base.specs.Numbers.{Within};
     ghost use Rattle.mill_base.specs.declared.limits.TheConstants.{MAX_COLUMNS};
     ghost use Rattle.mill_base.specs.Ranges.{IsInUnitRange};
     ghost use Rattle.mill_base.specs.Units.{greatest_of};
     ghost use Rattle.mill_job.specs.Columns.{row_count, column_count, column_x as x_of_column, column_y, home as home_of};
+    ghost use Rattle.mill_job.specs.Fixtures.{IsFixture, IsUnder};
     ghost use Rattle.mill_job.specs.Jobs.{part_tool_of, tool_of};
     ghost use Rattle.mill_job.specs.Solids.{holder_solid_of, inner_of, outer_of, part_solid_of, stock_solid_of};
     ghost use Rattle.mill_job.specs.Slack.{graze_of};
-    ghost use Rattle.mill_margin.specs.Margins.{IsMargin};
+    ghost use Rattle.mill_job.specs.declared.limits.TheConstants.{MAX_FIXTURES};
+    ghost use Rattle.mill_margin.specs.Margins.{IsMargin, offset_of};
 
     /// The job of these numbers, with the solids of its tool.
     pub fn new(fields: JobFields) -> Job
@@ -104,6 +107,18 @@ impl Job {
         ensures in_range { IsMargin result }
     {
         graze(&self.fields)
+    }
+
+    /// What stands on the machine beside the stock: at most 64 boxes, each in range, and such that
+    /// the cutter with the slack around it passes over it at the clear height.
+    pub fn fixtures(&self) -> &[Fixture]
+        ensures list { result.now ≡ self.now.fields.keep_out }
+        ensures few { length result.now ≤ MAX_FIXTURES }
+        ensures in_range { All (IsFixture self.now.fields.unit) result.now }
+        ensures under { All (IsUnder self.now.fields.clear
+            (offset_of self.now.fields.cutter self.now.fields.slack)) result.now }
+    {
+        self.fields.keep_out.as_slice()
     }
 
     /// How many rows of columns the stock has.

@@ -34,14 +34,20 @@ pub enum Key {
     Slack,
     Overcut,
     Graze,
+    KeepOut,
+    Start,
+    Spindle,
     /// The key of a list.
     Steps,
     /// A key of each of its steps, beside those of the cutter.
     Program,
+    /// What a plan would feed with. No document names it yet, so no plan is made for a job whose
+    /// programs have to.
+    Feed,
 }
 
 /// The keys of a job's document, in the format's order.
-pub const JOB_KEYS: [Key; 28] = [
+pub const JOB_KEYS: [Key; 31] = [
     Key::Unit,
     Key::Cutter,
     Key::Radius,
@@ -70,6 +76,9 @@ pub const JOB_KEYS: [Key; 28] = [
     Key::Slack,
     Key::Overcut,
     Key::Graze,
+    Key::KeepOut,
+    Key::Start,
+    Key::Spindle,
 ];
 
 impl Key {
@@ -106,8 +115,12 @@ impl Key {
             Key::Slack => "slack",
             Key::Overcut => "overcut",
             Key::Graze => "graze",
+            Key::KeepOut => "keep_out",
+            Key::Start => "start",
+            Key::Spindle => "spindle",
             Key::Steps => "steps",
             Key::Program => "program",
+            Key::Feed => "feed",
         }
     }
 }

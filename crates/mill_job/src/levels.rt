@@ -14,20 +14,24 @@ pub struct Levels {
 }
 
 impl Model for Levels {
-    ghost use Rattle.std.specs.Prelude.{◌++◌, ℤ, List, take, length};
+    ghost use Rattle.std.specs.Prelude.{◌++◌, ℤ, pos, List, take, length};
     ghost use Rattle.std.proofs.lemmas.List.{length-take-le};
-    ghost use Rattle.mill_job.specs.Filled.{IsFilled, filled, zeros};
+    ghost use Rattle.mill_job.specs.Filled.{IsFilled, blanks, filled};
+    ghost use Rattle.mill_job.specs.declared.limits.TheConstants.{MAX_LEVELS};
 
     ghost Value = { List ℤ };
 
     ghost view = { λ levels. take levels.count levels.heights };
 
-    ghost invariant = { λ levels. IsFilled levels.count levels.heights };
+    ghost invariant = { λ levels. IsFilled MAX_LEVELS (pos 0) levels.count levels.heights };
 
-    ghost inverse = { λ heights. record { heights = heights ++ zeros (length heights); count = length heights } };
+    ghost inverse = { λ heights. record {
+      heights = heights ++ blanks MAX_LEVELS (pos 0) (length heights);
+      count = length heights;
+    } };
 
     ghost inverse_ok = { λ levels h i. record {
-      heights = filled levels.count levels.heights h i;
+      heights = filled MAX_LEVELS (pos 0) levels.count levels.heights h i;
       count = length-take-le levels.count levels.heights h.few i;
     } };
 }

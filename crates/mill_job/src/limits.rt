@@ -21,3 +21,6 @@ pub const MAX_LAYERS: i32 = 1_000;
 
 /// The most waterlines that a job may have.
 pub const MAX_LEVELS: usize = 64;
+
+/// The most fixtures that a job may have.
+pub const MAX_FIXTURES: usize = 64;

@@ -23,7 +23,8 @@ use std::alloc::Global;
 /// order above, that it is missing, of a wrong kind or out of range, which a program's name never
 /// is; and a relation that fails: only a cone has a rise, only a cone has a run, rise is at most 16
 /// times run, the job's band is at most the radius, the radius of its holder, if it has one, is
-/// over it, and its slack, its overcut and its graze fit the cutter as they fit a job's own.
+/// over it, and its slack, its overcut, its graze and its fixtures fit the cutter as they fit a
+/// job's own.
 pub fn read_list(alloc: Global, text: &[u8], job: &Job) -> Result<Vec<Step>, JobFault>
     ensures gives { GivesList job.now.fields text.now result }
     ensures fit { IfOk result (λ steps. All (λ step. FitsJob job.now.fields step.cutter) steps.items) }

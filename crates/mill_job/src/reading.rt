@@ -62,6 +62,9 @@ fn assembled(
         slack: extras.slack,
         overcut: extras.overcut,
         graze: extras.graze,
+        keep_out: extras.keep_out,
+        start: extras.start,
+        spindle: extras.spindle,
     }
 }
 
@@ -105,8 +108,8 @@ fn read_fields(alloc: Global, text: &[u8]) -> Result<JobFields, JobFault>
 
 /// Reads a job: a TOML 1.0 document with each key of [`Key`] and no other; `unit`, `snap`, `lift`,
 /// `raster`, `rough_raster`, `layer`, `rough_stock`, `levels`, `max_cut`, `path_tol`, `slack`,
-/// `overcut` and `graze` may be left out, `rise` and `run` where the cutter is no cone, and
-/// `holder_radius` and `stickout` both or neither.
+/// `overcut`, `graze`, `keep_out`, `start` and `spindle` may be left out, `rise` and `run` where
+/// the cutter is no cone, and `holder_radius` and `stickout` both or neither.
 ///
 /// `unit` is a text, `hundredth` for 0.01 mm or `thousandth` for 0.001 mm; numbers are whole, in
 /// that unit. `cutter` is a text, `flat`, `ball` or `cone`. `radius`, `pitch`, `sample`, `raster`,
@@ -116,12 +119,15 @@ fn read_fields(alloc: Global, text: &[u8]) -> Result<JobFields, JobFault>
 /// to the unit's greatest coordinate, which is 131,071 or 524,287. `floor`, `top`, `clear` and the
 /// members of `area`, `home` and `levels` are coordinates, of a magnitude of at most that. `area`
 /// has x0, y0, x1, y1, with x0 at most x1 and y0 at most y1; `home` has x, y; `levels` has at most
-/// 64 members, each less than the one before it. `snap` is a text, `nearest` or `exact`.
+/// 64 members, each less than the one before it. `snap` is a text, `nearest` or `exact`. `keep_out`
+/// has at most 64 members, each an array of five coordinates x0, y0, x1, y1, z, with x0 at most x1
+/// and y0 at most y1. `start` is a text, `home`, `anywhere` or `change`, and `spindle` a truth
+/// value.
 ///
 /// In a document without them `unit` is `hundredth`, `lift`, `layer`, `rough_stock`, `max_cut`,
-/// `slack` and `overcut` are 0, `raster` is the pitch, `rough_raster` the raster, `levels` has no
-/// member, `snap` is `nearest`, there is no holder and no tolerance of paths, and `graze` is as
-/// [`Job::graze`] says.
+/// `slack` and `overcut` are 0, `raster` is the pitch, `rough_raster` the raster, `levels` and
+/// `keep_out` have no member, `snap` is `nearest`, there is no holder and no tolerance of paths,
+/// `graze` is as [`Job::graze`] says, `start` is `home`, and `spindle` is false.
 ///
 /// The relations are: only a cone has a rise, only a cone has a run, rise is at most 16 times run,
 /// floor at most top, top at most clear, there are at most 4,000,000 columns, band is at most
@@ -129,13 +135,14 @@ fn read_fields(alloc: Global, text: &[u8]) -> Result<JobFields, JobFault>
 /// least floor and less than top, a holder's radius is over the cutter's, slack, overcut and graze
 /// are less than radius, and radius and slack together at most 10,000, graze is at least twice
 /// slack, and its offset at least twice the slack's, a holder's stickout is over slack, and its
-/// radius and slack together at most 10,000, and top and the slack's offset together are at most
-/// clear.
+/// radius and slack together at most 10,000, top and the slack's offset together are at most clear,
+/// and so are z of each of `keep_out` and that offset.
 ///
 /// A fault is the first in this order: the document's syntax; an unknown key, the first by its
 /// bytes; for each key in the order of [`Key`], that it is missing, of a wrong kind or out of
-/// range; a relation that fails. Of `holder_radius` and `stickout` one is missing where the other is
-/// there.
+/// range; a relation that fails. An array with a member of another kind is of a wrong kind, even
+/// where another of its members is out of range. Of `holder_radius` and `stickout` one is missing
+/// where the other is there.
 pub fn read_job(alloc: Global, text: &[u8]) -> Result<Job, JobFault>
     ensures { GivesJob text.now (fields_of result) }
 {

@@ -16,7 +16,7 @@ use crate::fitting::has_narrow_holder;
 use crate::key::Key;
 use crate::limits::MAX_LAYERS;
 use crate::positions::count;
-use crate::slack::{has_close_holder, has_low_clear, slack_fault};
+use crate::slack::{clears_fixtures, has_close_holder, has_low_clear, slack_fault};
 use mill_base::MAX_COLUMNS;
 
 /// Whether roughing takes off more layers than it may.
@@ -92,7 +92,7 @@ fn cut_fault(job: &JobFields) -> Option<JobFault>
 }
 
 /// The first relation that fails between a job's slack, its overcut or its graze and its cutter,
-/// its holder or its heights.
+/// its holder, its heights or its fixtures.
 fn room_fault(job: &JobFields) -> Option<JobFault>
     requires { IsRanged job.now }
     ensures value { result ≡ first (room_faults job.now) }
@@ -106,6 +106,9 @@ fn room_fault(job: &JobFields) -> Option<JobFault>
     }
     if has_low_clear(job, &job.cutter) {
         return Some(JobFault::Relation(Key::Slack, Key::Clear));
+    }
+    if !clears_fixtures(job, &job.cutter) {
+        return Some(JobFault::Relation(Key::KeepOut, Key::Clear));
     }
     None
 }

@@ -1,8 +1,11 @@
-ghost use Rattle.std.specs.Prelude.{◌≡◌, ◌+ℤ◌, ◌≤ℤ◌, int_le, pos, false, IfSome, None};
+ghost use Rattle.std.specs.Prelude.{◌≡◌, ◌+ℤ◌, ◌≤ℤ◌, int_le, pos, true, false, All};
+ghost use Rattle.std.specs.Prelude.{IfSome, None};
+ghost use Rattle.std.specs.List.{list_all};
 ghost use Rattle.mill_base.specs.Numbers.{Within};
 ghost use Rattle.mill_base.specs.Sizes.{IsCutter};
 ghost use Rattle.mill_base.specs.Units.{greatest_of};
-ghost use Rattle.mill_job.specs.Documents.{slack_faults};
+ghost use Rattle.mill_job.specs.Documents.{are_under, slack_faults};
+ghost use Rattle.mill_job.specs.Fixtures.{IsUnder};
 ghost use Rattle.mill_job.specs.Jobs.{HolderHasRoom, IsFrom, IsRoomy};
 ghost use Rattle.mill_job.specs.Slack.{graze_of, is_holder_close, is_low, is_shallow, is_tight};
 ghost use Rattle.mill_job.specs.Tables.{first};
@@ -11,6 +14,7 @@ ghost use Rattle.mill_margin.specs.Margins.{offset_of, IsMargin};
 
 use crate::fault::JobFault;
 use crate::fields::JobFields;
+use crate::fixtures::Fixture;
 use crate::key::Key;
 use crate::limits::SPARE_GRAZE;
 use mill_base::{Cutter, MAX_RADIUS, Solid};
@@ -109,4 +113,27 @@ pub fn has_low_clear(job: &JobFields, cutter: &Cutter) -> bool
     ensures no { result ≡ false → (job.now.top +ℤ offset_of cutter.now job.now.slack) ≤ℤ job.now.clear }
 {
     job.clear < job.top + offset(*cutter, job.slack)
+}
+
+/// Whether each fixture is at most this high.
+fn are_low(fixtures: &[Fixture], most: i32) -> bool
+    ensures { result ≡ list_all (λ fixture. int_le fixture.height most) fixtures.now }
+{
+    fixtures.iter().all(|fixture| fixture.height <= most)
+}
+
+/// Whether a cutter with the slack around it passes over each of the job's fixtures at its clear
+/// height.
+pub fn clears_fixtures(job: &JobFields, cutter: &Cutter) -> bool
+    requires cutter_ok { IsCutter cutter.now }
+    requires slack_ok { IsFrom (pos 0) MAX_SLACK job.now.slack }
+    requires clear_ok { Within (greatest_of job.now.unit) job.now.clear }
+    ensures value { result ≡ are_under job.now cutter.now }
+    ensures yes { result ≡ true →
+        All (IsUnder job.now.clear (offset_of cutter.now job.now.slack)) job.now.keep_out }
+{
+    are_low(
+        job.keep_out.as_slice(),
+        job.clear - offset(*cutter, job.slack),
+    )
 }

@@ -4,11 +4,14 @@ ghost use Rattle.mill_base.specs.Units.{greatest_of};
 ghost use Rattle.toml.specs.Data.{as_integer, get_member};
 ghost use Rattle.toml.specs.View.{table_view, view};
 ghost use Rattle.mill_job.specs.Documents.{snap_of, unit_of, unit_texts};
+ghost use Rattle.mill_job.specs.Habits.{flag_at, flag_fault};
+ghost use Rattle.mill_job.specs.Habits.{start_of, start_texts};
 ghost use Rattle.mill_job.specs.Jobs.{IsFrom};
 ghost use Rattle.mill_job.specs.Keys.{name_of};
 ghost use Rattle.mill_job.specs.Tables.{coordinate_fault, is_coordinate, is_from, kind_fault, number_at, number_fault, number_fault_if_there, number_given, number_or as number_or_other, text_fault_if_there};
 
 use crate::fault::JobFault;
+use crate::habits::Start;
 use crate::key::Key;
 use mill_base::Unit;
 use mill_decimal::Snap;
@@ -153,4 +156,38 @@ pub fn snap(table: &Table) -> Result<Snap, JobFault>
         Some("exact") => Ok(Snap::Exact),
         Some(_) => Err(JobFault::Range(Key::Snap)),
     }
+}
+
+/// From where the document's programs start.
+#[tactic(auto, unfolding(crate::specs::Tables::text_fault_if_there, crate::specs::Habits::start_of))]
+pub fn start(table: &Table) -> Result<Start, JobFault>
+    ensures ok { IfOk result (λ start.
+        (text_fault_if_there Key.Start start_texts (table_view table.now) ≡ None)
+        × (start ≡ start_of (table_view table.now))) }
+    ensures err { IfErr result (λ fault.
+        text_fault_if_there Key.Start start_texts (table_view table.now) ≡ Some fault) }
+{
+    let Some(value) = find(table, Key::Start) else {
+        return Ok(Start::Home);
+    };
+    match value.as_str() {
+        None => Err(JobFault::WrongKind(Key::Start)),
+        Some("home") => Ok(Start::Home),
+        Some("anywhere") => Ok(Start::Anywhere),
+        Some("change") => Ok(Start::Change),
+        Some(_) => Err(JobFault::Range(Key::Start)),
+    }
+}
+
+/// The truth value at a key, false where the document lacks the key.
+#[tactic(auto, unfolding(crate::specs::Habits::flag_fault, crate::specs::Habits::flag_at))]
+pub fn flag(table: &Table, key: Key) -> Result<bool, JobFault>
+    ensures ok { IfOk result (λ flag. (flag_fault key (table_view table.now) ≡ None)
+        × (flag ≡ flag_at key (table_view table.now))) }
+    ensures err { IfErr result (λ fault. flag_fault key (table_view table.now) ≡ Some fault) }
+{
+    let Some(value) = find(table, key) else {
+        return Ok(false);
+    };
+    value.as_bool().ok_or(JobFault::WrongKind(key))
 }

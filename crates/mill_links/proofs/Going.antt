@@ -6,7 +6,6 @@ use Rattle.std.proofs.Common.{inl, inr, refl, sym, subst, ap, arith}
 use Rattle.std.proofs.lemmas.Int.{ints}
 use Rattle.std.proofs.lemmas.List.{append_assoc, append-nil}
 use Rattle.std.proofs.lemmas.List.Elements.{All-head, All-tail, Contains-append_right}
-use Rattle.mill_base.specs.Covers.{IsUnder}
 use Rattle.mill_base.specs.Numbers.{Within, greater, lesser}
 use Rattle.mill_base.specs.Units.{greatest_of}
 use Rattle.mill_base.specs.Points.{highest, point_at, point_tri}
@@ -23,17 +22,19 @@ use Rattle.mill_dexel.proofs.Limits.{passes_limit_after_cut}
 use Rattle.mill_gouge.specs.Gouges.{ToolPassesPart}
 use Rattle.mill_gouge.proofs.Leasts.{over_part_passes}
 use Rattle.mill_job.specs.Columns.{column_x, column_y, home}
+use Rattle.mill_job.specs.Habits.{is_elsewhere}
 use Rattle.mill_job.specs.Jobs.{IsJob, tool_of}
 use Rattle.mill_job.specs.Solids.{stock_solid_of}
 use Rattle.mill_job.specs.declared.fields.JobFields.{JobFields}
 use Rattle.mill_job.proofs.SolidFacts.{stock_lift}
+use Rattle.mill_margin.specs.Margins.{offset_of}
 use Rattle.mill_sweep.specs.Reach.{low_end_of}
 use Rattle.mill_sweep.specs.Solids.{SolidPassesPoint}
 use Rattle.mill_sweep.specs.Vertical.{StaysOver}
 use Rattle.mill_sweep.proofs.Far.{top_passes}
-use Rattle.mill_links.specs.Links.{at_height, feed_to, rapid_to, is_over_place, climb, cross, descend, over_stock, peck_count, pecks, plunge, detour, MayFeed, IsLink, way_home}
+use Rattle.mill_links.specs.Links.{at_height, feed_to, rapid_to, stay, head, is_over_place, climb, cross, descend, over_stock, peck_count, pecks, plunge, detour, MayFeed, IsLink, way_home}
 use Rattle.mill_links.specs.Tours.{AreLinks, last_place}
-use Rattle.mill_links.specs.Safety.{IsSafeMove, AreSafe, Connect, IsFreePlace, IsEndOf, IsReached, GoSafely, LinkIsSafe, TourIsSafe, WayHomeIsSafe}
+use Rattle.mill_links.specs.Safety.{IsSafeMove, AreSafe, Connect, IsFreePlace, IsEndOf, IsReached, GoSafely, LiesUnderClear, HeadIsSafe, LinkIsSafe, TourIsSafe, WayHomeIsSafe}
 use Rattle.mill_links.specs.declared.visit.Visit.{Visit}
 use Rattle.mill_links.proofs.Kept.{between}
 use Rattle.mill_links.proofs.Overs.{clear_most, lifted_over, over_ok, over_part, top_least}
@@ -98,7 +99,7 @@ module _ (job : JobFields) (part : List Tri) where
   }
 
 -- the moves themselves
-module _ (job : JobFields) (part : List Tri) (ok : IsJob job) (under : IsUnder part job.top) where
+module _ (job : JobFields) (part : List Tri) (ok : IsJob job) (under : LiesUnderClear job part) where
   abbrev solid : Solid
   solid = stock_solid_of job
 
@@ -118,12 +119,12 @@ module _ (job : JobFields) (part : List Tri) (ok : IsJob job) (under : IsUnder p
 
   -- a rapid over the stock
   over_safe : (done : List Move) (start end : Pt3) → MoveInUnitRange job.unit (rapid_to start end) → over_stock job ≤ℤ start.z → over_stock job ≤ℤ end.z
-      → IsSafeMove job part done (rapid_to start end)
-  over_safe done start end ranged from to = record {
+      → ToolPassesPart (tool_of job) (rapid_to start end) part → IsSafeMove job part done (rapid_to start end)
+  over_safe done start end ranged from to passes = record {
     ranged = ranged;
     floor_from = through _ _ _ floor_least from;
     floor_to = through _ _ _ floor_least to;
-    passes = over_part_passes (tool_of job) part m job.top under (over_part job ok (low_end_of m) (both_over (over_stock job) start.z end.z from to));
+    passes = passes;
     stock = λ rapid x y. let h = low_column x y in
         top_passes solid.cutter (lifted solid m) (point_tri (point_at x y (top_after job x y done))) (stock_over _ start.z (through _ _ _ h from)) (stock_over _ end.z (through _ _ _ h to));
     depth = λ feed. absurd (rapid_is_no_feed feed);
@@ -132,11 +133,21 @@ module _ (job : JobFields) (part : List Tri) (ok : IsJob job) (under : IsUnder p
       m : Move
       m = rapid_to start end
 
-      both_over : (low a b : ℤ) → low ≤ℤ a → low ≤ℤ b → low ≤ℤ lesser a b
-      both_over low a b p q = grind (p, q, arith, ints)
-
       low_column : (x y : ℤ) → highest (point_tri (point_at x y (top_after job x y done))) ≤ℤ over_stock job
       low_column x y = let h = column_low done x y in all_low _ _ _ (over_stock job) h h h
+
+  -- a rapid at the clear height, or over it
+  across_safe : (done : List Move) (start end : Pt3) → MoveInUnitRange job.unit (rapid_to start end) → job.clear ≤ℤ start.z → job.clear ≤ℤ end.z
+      → IsSafeMove job part done (rapid_to start end)
+  across_safe done start end ranged from to =
+      over_safe done start end ranged (through _ _ _ (clear_most job ok) from) (through _ _ _ (clear_most job ok) to)
+      (over_part_passes (tool_of job) part m (job.clear -ℤ offset_of job.cutter job.slack) under (over_part job ok (low_end_of m) (both_over job.clear start.z end.z from to)))
+    where
+      m : Move
+      m = rapid_to start end
+
+      both_over : (low a b : ℤ) → low ≤ℤ a → low ≤ℤ b → low ≤ℤ lesser a b
+      both_over low a b p q = grind (p, q, arith, ints)
 
   -- the tool doesn't gouge at a free place, so it passes the part on a move straight over it
   passes_free : (m : Move) (p : Pt3) → IsFreePlace job part p → StaysOver p m → ToolPassesPart (tool_of job) m part
@@ -225,7 +236,8 @@ module _ (job : JobFields) (part : List Tri) (ok : IsJob job) (under : IsUnder p
           → GoSafely job part done (at_height from job.clear) (if b then [] else over ∷ []) (at_height at job.clear)
       by true e = go_nowhere job part done (at_height from job.clear) (at_height at job.clear) (same e) (at_clear done from ranged)
       by false e = go_once job part done over
-          (over_safe done (at_height from job.clear) (at_height at job.clear) (record { from_ok = raised_range from job.clear ranged ok.clear_ok; to_ok = raised_range at job.clear at_ok ok.clear_ok }) (clear_most job ok) (clear_most job ok))
+          (across_safe done (at_height from job.clear) (at_height at job.clear) (record { from_ok = raised_range from job.clear ranged ok.clear_ok; to_ok = raised_range at job.clear at_ok ok.clear_ok })
+          (at_most_itself job.clear) (at_most_itself job.clear))
           (at_clear _ at at_ok)
 
   -- a feed straight down over a free place that ends no deeper than the greatest depth of cut under the height z: that of the top of the stock, or where a move ended
@@ -299,6 +311,12 @@ module _ (job : JobFields) (part : List Tri) (ok : IsJob job) (under : IsUnder p
       down : Move
       down = rapid_to (at_height at job.clear) (at_height at (over_stock job))
 
+      stays : StaysOver at down
+      stays = record {
+        from = record { x_same = refl; y_same = refl; z_least = through _ _ _ free.top ok.over_stock };
+        to = record { x_same = refl; y_same = refl; z_least = through _ _ _ free.top (top_least job ok) };
+      }
+
       same : int_lt (over_stock job) job.clear ≡ false → at_height at (over_stock job) ≡ at_height at job.clear
       same high = ap (λ z. point_at at.x at.y z) (equal (over_stock job) job.clear high (clear_most job ok))
         where
@@ -321,7 +339,8 @@ module _ (job : JobFields) (part : List Tri) (ok : IsJob job) (under : IsUnder p
           → GoSafely job part done (at_height at job.clear) ((if b then down ∷ [] else []) ++ plunge job at) at
       by true low = record {
         safe = (
-          over_safe done (at_height at job.clear) (at_height at (over_stock job)) (record { from_ok = raised_range at job.clear free.ranged ok.clear_ok; to_ok = raised_range at (over_stock job) free.ranged (over_ok job ok) }) (clear_most job ok) (at_most_itself (over_stock job)),
+          over_safe done (at_height at job.clear) (at_height at (over_stock job)) (record { from_ok = raised_range at job.clear free.ranged ok.clear_ok; to_ok = raised_range at (over_stock job) free.ranged (over_ok job ok) }) (clear_most job ok) (at_most_itself (over_stock job))
+              (passes_free down at free stays),
           plunge_safe (done ++ down ∷ []) at free,
         );
         connect = (refl, led);
@@ -381,6 +400,28 @@ module _ (job : JobFields) (part : List Tri) (ok : IsJob job) (under : IsUnder p
   home_goes done from reached =
       go_on job part done from (at_height from job.clear) (home job) (climb job from) (cross job from (home job))
       (climb_goes done from reached) (cross_goes _ from (home job) reached.ranged (record { x_ok = ok.home_ok.x_ok; y_ok = ok.home_ok.y_ok; z_ok = ok.clear_ok }))
+
+  -- what a program begins with
+  head_goes : GoSafely job part [] (home job) (head job) (home job)
+  unfolding head
+  head_goes = by (is_elsewhere job.start)
+    where
+      ranged : IsInUnitRange job.unit (home job)
+      ranged = record { x_ok = ok.home_ok.x_ok; y_ok = ok.home_ok.y_ok; z_ok = ok.clear_ok }
+
+      waits : (done : List Move) → IsSafeMove job part done (stay (home job))
+      waits done = across_safe done (home job) (home job) (record { from_ok = ranged; to_ok = ranged }) (at_most_itself job.clear) (at_most_itself job.clear)
+
+      by : (b : Bool) → GoSafely job part [] (home job) (if b then stay (home job) ∷ stay (home job) ∷ [] else []) (home job)
+      by true = record {
+        safe = (waits [], (waits (stay (home job) ∷ []), tt));
+        connect = (refl, (refl, refl));
+        reached = at_clear _ (home job) ranged;
+      }
+      by false = go_nowhere job part [] (home job) (home job) refl (at_clear [] (home job) ranged)
+
+pub head_is_safe : HeadIsSafe
+head_is_safe job part ok under = head_goes job part ok under
 
 pub link_is_safe : LinkIsSafe
 link_is_safe job part done from visit moves ok under reached free link = link_goes job part ok under done from visit moves reached free link

@@ -11,3 +11,4 @@ mod ToolLemmas
 pub mod Going
 pub mod Steps
 mod Stages
+pub mod Heads

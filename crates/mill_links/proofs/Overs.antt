@@ -1,4 +1,4 @@
--- The height from which nothing of a job's tool is under the top of the stock.
+-- The heights from which nothing of a job's tool is under the top of the stock, and under what the tool has to keep off.
 use Rattle.std.specs.Prelude.{◌≡◌, ◌≤◌, ℤ, pos, nat_abs, ◌+ℤ◌, ◌-ℤ◌, ◌<ℤ◌, ◌≤ℤ◌, Option, Some, None, IfSome}
 use Rattle.std.proofs.Common.{refl, ap, ◌∙◌, subst, sym, FitsSigned, w32, arith}
 use Rattle.std.proofs.lemmas.Int.{ints, to_z-of_z}
@@ -52,7 +52,7 @@ module _ (job : JobFields) (ok : IsJob job) where
   pub over_ok : Within (greatest_of job.unit) (over_stock job)
   over_ok = between (greatest_of job.unit) job.top job.clear (over_stock job) ok.top_ok ok.clear_ok top_least clear_most
 
-  -- from there on each solid's tip is over the top
+  -- no solid reaches farther under its tip
   low_most : low_of (tool_of job) ≤ℤ offset
   low_most =
       greater_least (under_tip_of (outer_of job)) (held_under_tip_of (holder_solid_of job)) offset
@@ -69,12 +69,12 @@ module _ (job : JobFields) (ok : IsJob job) where
       held None over = offset_least
       held (Some holder) over = greater_least (pos 0 -ℤ holder.lift) (pos 0) offset (down holder.lift offset over offset_least) offset_least
 
-  pub over_part : (z : ℤ) → over_stock job ≤ℤ z → job.top ≤ℤ (z -ℤ low_of (tool_of job))
-  unfolding over_stock
-  over_part z over = by job.top offset (low_of (tool_of job)) over low_most
+  -- and at the clear height over all that stays under it by as much as the cutter with the slack around it reaches under its tip
+  pub over_part : (z : ℤ) → job.clear ≤ℤ z → (job.clear -ℤ offset) ≤ℤ (z -ℤ low_of (tool_of job))
+  over_part z over = by job.clear offset (low_of (tool_of job)) over low_most
     where
-      by : (t o l : ℤ) → (t +ℤ o) ≤ℤ z → l ≤ℤ o → t ≤ℤ (z -ℤ l)
-      by t o l h k = omega (h, k, arith, ints)
+      by : (c o l : ℤ) → c ≤ℤ z → l ≤ℤ o → (c -ℤ o) ≤ℤ (z -ℤ l)
+      by c o l h k = omega (h, k, arith, ints)
 
   -- ---- as it is worked out of the top and the outer solid's lift
 

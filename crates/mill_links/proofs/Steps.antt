@@ -7,9 +7,10 @@ use Rattle.std.proofs.lemmas.List.{append_assoc, append-nil}
 use Rattle.mill_base.specs.declared.points.Pt3.{Pt3}
 use Rattle.mill_base.specs.declared.points.Tri.{Tri}
 use Rattle.mill_base.specs.declared.motion.Move.{Move}
+use Rattle.mill_job.specs.Columns.{home}
 use Rattle.mill_job.specs.declared.fields.JobFields.{JobFields}
-use Rattle.mill_links.specs.Links.{IsLink}
-use Rattle.mill_links.specs.Tours.{AreLinks, IsTour, last_place}
+use Rattle.mill_links.specs.Links.{IsLink, head}
+use Rattle.mill_links.specs.Tours.{AreLinks, GoesThrough, IsTour, last_place}
 use Rattle.mill_links.specs.declared.visit.Visit.{Visit}
 
 -- where the cutter is after visits and others, and after visits and one more
@@ -61,3 +62,16 @@ pub tour_snoc : (job : JobFields) (part : List Tri) (done : List Move) (from : P
     → IsTour job part done from (visits ++ v ∷ []) (moves ++ link)
 tour_snoc job part done from visits v moves link so_far next =
     tour_join job part done from visits (v ∷ []) moves link so_far (tour_once job part (done ++ moves) (last_place from visits) v link next)
+
+-- a program that comes to no visit yet, and one that comes to one more
+pub through_none : (job : JobFields) (part : List Tri) → GoesThrough job part [] (head job)
+through_none job part = record { toured = []; tour = tour_nil job part (head job) (home job); joined = sym (append-nil (head job)) }
+
+pub through_snoc : (job : JobFields) (part : List Tri) (visits : List Visit) (v : Visit) (moves link : List Move) → GoesThrough job part visits moves
+    → IsLink job part moves (last_place (home job) visits) v link → GoesThrough job part (visits ++ v ∷ []) (moves ++ link)
+through_snoc job part visits v moves link so_far next = record {
+  toured = so_far.toured ++ link;
+  tour = tour_snoc job part (head job) (home job) visits v so_far.toured link so_far.tour
+      (subst (λ (ms : List Move). IsLink job part ms (last_place (home job) visits) v link) so_far.joined next);
+  joined = ap (λ (ms : List Move). ms ++ link) so_far.joined ∙ append_assoc (head job) so_far.toured link;
+}

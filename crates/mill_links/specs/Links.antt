@@ -11,6 +11,7 @@ use Rattle.mill_dexel.specs.Stocks.{IsStock}
 use Rattle.mill_dexel.specs.Tops.{ClearsColumns, IsTested}
 use Rattle.mill_gouge.specs.Gouges.{ToolPassesPart}
 use Rattle.mill_job.specs.Columns.{home}
+use Rattle.mill_job.specs.Habits.{is_elsewhere}
 use Rattle.mill_job.specs.Jobs.{tool_of}
 use Rattle.mill_margin.specs.Margins.{offset_of}
 use Rattle.mill_job.specs.declared.fields.JobFields.{JobFields}
@@ -32,6 +33,10 @@ feed_to from at = record { kind = Feed; from = from; to = at }
 -- the rapid from one place to another
 abbrev pub rapid_to : Pt3 → Pt3 → Move
 rapid_to from at = record { kind = Rapid; from = from; to = at }
+
+-- the rapid that stays where it is
+abbrev pub stay : Pt3 → Move
+stay p = rapid_to p p
 
 -- the place at this height over or under another
 abbrev pub at_height : Pt3 → ℤ → Pt3
@@ -121,6 +126,10 @@ IsLink job part done from visit moves = IsStay from visit moves ⊎ (IsStraight 
 -- the way home: up and across
 abbrev pub way_home : JobFields → Pt3 → List Move
 way_home job from = climb job from ++ cross job from (home job)
+
+-- with what a program begins: where it may start from elsewhere than over home, two rapids that stay at home, of which a text has the lines that bring the tool there
+unfoldable pub head : JobFields → List Move
+head job = if is_elsewhere job.start then stay (home job) ∷ stay (home job) ∷ [] else []
 
 -- the list gets the moves of a link after the moves done so far
 pub record AddsLink (job : JobFields) (part : List Tri) (done : List Move) (from : Pt3) (visit : Visit) (old new : List Move) : Type 0 where

@@ -1,6 +1,6 @@
 -- What every move of a plan keeps: it is in the range of the job's unit and over the floor, and cutter and holder pass the part; as a rapid it passes what is left of the stock, and as a feed it
 -- cuts no column too deep.
-use Rattle.std.specs.Prelude.{◌≡◌, ◌⊎◌, ℤ, pos, ◌≤ℤ◌, List, [], ◌∷◌, ◌++◌, All, Contains}
+use Rattle.std.specs.Prelude.{◌≡◌, ◌⊎◌, ℤ, pos, ◌-ℤ◌, ◌≤ℤ◌, List, [], ◌∷◌, ◌++◌, All, Contains}
 use Rattle.mill_base.specs.Covers.{IsUnder}
 use Rattle.mill_base.specs.Points.{point_at}
 use Rattle.mill_base.specs.Ranges.{IsInUnitRange, MoveInUnitRange}
@@ -15,8 +15,9 @@ use Rattle.mill_job.specs.Columns.{home}
 use Rattle.mill_job.specs.Jobs.{IsJob, tool_of}
 use Rattle.mill_job.specs.Solids.{stock_solid_of}
 use Rattle.mill_job.specs.declared.fields.JobFields.{JobFields}
+use Rattle.mill_margin.specs.Margins.{offset_of}
 use Rattle.mill_sweep.specs.Solids.{SolidPassesPoint}
-use Rattle.mill_links.specs.Links.{IsLink, way_home}
+use Rattle.mill_links.specs.Links.{IsLink, head, way_home}
 use Rattle.mill_links.specs.Tours.{IsTour, last_place}
 use Rattle.mill_links.specs.declared.visit.Visit.{Visit}
 
@@ -38,6 +39,10 @@ AreSafe job part done (m ∷ ms) = IsSafeMove job part done m × AreSafe job par
 abbrev pub Connect : Pt3 → List Move → Pt3 → Type 0
 Connect from [] to = to ≡ from
 Connect from (m ∷ ms) to = (m.from ≡ from) × Connect m.to ms to
+
+-- what the tool has to keep off stays under the clear height, by as much as the cutter with the slack around it reaches under its tip
+abbrev pub LiesUnderClear : JobFields → List Tri → Type 0
+LiesUnderClear job part = IsUnder part (job.clear -ℤ offset_of job.cutter job.slack)
 
 -- the tool may stand here: the place is in the unit's range, from the floor to the top of the stock, and no part point is strictly inside the cutter or its holder
 pub record IsFreePlace (job : JobFields) (part : List Tri) (p : Pt3) : Type 0 where
@@ -65,17 +70,21 @@ pub record GoSafely (job : JobFields) (part : List Tri) (done : List Move) (from
   pub connect : Connect from moves to
   pub reached : IsReached job part (done ++ moves) to
 
+-- what a program begins with stays at home safely
+abbrev pub HeadIsSafe : Type 0
+HeadIsSafe = (job : JobFields) (part : List Tri) → IsJob job → LiesUnderClear job part → GoSafely job part [] (home job) (head job) (home job)
+
 -- a link to a free place goes there safely
 abbrev pub LinkIsSafe : Type 0
-LinkIsSafe = (job : JobFields) (part : List Tri) (done : List Move) (from : Pt3) (visit : Visit) (moves : List Move) → IsJob job → IsUnder part job.top
+LinkIsSafe = (job : JobFields) (part : List Tri) (done : List Move) (from : Pt3) (visit : Visit) (moves : List Move) → IsJob job → LiesUnderClear job part
     → IsReached job part done from → IsFreePlace job part visit.at → IsLink job part done from visit moves → GoSafely job part done from moves visit.at
 
 -- so does a tour of free places
 abbrev pub TourIsSafe : Type 0
-TourIsSafe = (job : JobFields) (part : List Tri) (done : List Move) (from : Pt3) (visits : List Visit) (moves : List Move) → IsJob job → IsUnder part job.top
+TourIsSafe = (job : JobFields) (part : List Tri) (done : List Move) (from : Pt3) (visits : List Visit) (moves : List Move) → IsJob job → LiesUnderClear job part
     → IsReached job part done from → All (λ v. IsFreePlace job part v.at) visits → IsTour job part done from visits moves → GoSafely job part done from moves (last_place from visits)
 
 -- and the way home
 abbrev pub WayHomeIsSafe : Type 0
-WayHomeIsSafe = (job : JobFields) (part : List Tri) (done : List Move) (from : Pt3) → IsJob job → IsUnder part job.top
+WayHomeIsSafe = (job : JobFields) (part : List Tri) (done : List Move) (from : Pt3) → IsJob job → LiesUnderClear job part
     → IsReached job part done from → GoSafely job part done from (way_home job from) (home job)

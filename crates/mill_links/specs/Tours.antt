@@ -4,8 +4,9 @@ use Rattle.std.specs.List.{flat_map}
 use Rattle.mill_base.specs.declared.points.Pt3.{Pt3}
 use Rattle.mill_base.specs.declared.points.Tri.{Tri}
 use Rattle.mill_base.specs.declared.motion.Move.{Move}
+use Rattle.mill_job.specs.Columns.{home}
 use Rattle.mill_job.specs.declared.fields.JobFields.{JobFields}
-use Rattle.mill_links.specs.Links.{IsLink}
+use Rattle.mill_links.specs.Links.{IsLink, head}
 use Rattle.mill_links.specs.declared.visit.Visit.{Visit}
 
 -- after the moves done so far these are the links to the visits, one list of moves each: the first from this place, and each other from the visit before it
@@ -25,3 +26,9 @@ pub record IsTour (job : JobFields) (part : List Tri) (done : List Move) (from :
 abbrev pub last_place : Pt3 → List Visit → Pt3
 last_place from [] = from
 last_place from (v ∷ vs) = last_place v.at vs
+
+-- a program that begins with these moves goes from home through all the visits: behind what it begins with come the links
+pub record GoesThrough (job : JobFields) (part : List Tri) (visits : List Visit) (moves : List Move) : Type 0 where
+  pub toured : List Move
+  pub tour : IsTour job part (head job) (home job) visits toured
+  pub joined : moves ≡ head job ++ toured

@@ -1,4 +1,10 @@
-ghost use Rattle.mill_links.specs.Safety.{LinkIsSafe, TourIsSafe, WayHomeIsSafe};
+ghost use Rattle.mill_links.specs.Safety.{HeadIsSafe, LinkIsSafe, TourIsSafe, WayHomeIsSafe};
+
+/// What a program begins with stays at home safely, where what the tool has to keep off stays under
+/// the clear height by as much as the cutter with the slack around it reaches under its tip.
+pub fn head_is_safe()
+    ensures { HeadIsSafe }
+{}
 
 /// From where the cutter is, a link to a free place goes there safely: its moves lead on from each
 /// other, and stay in the unit's range and over the floor; on each of them the cutter, and its holder if

@@ -6,10 +6,12 @@
 //! and, with the cutter, of the stock.
 #![tactic(auto)]
 
+mod begin;
 mod laws;
 mod links;
 mod visit;
 
-pub use laws::{link_is_safe, tour_is_safe, way_home_is_safe};
+pub use begin::head;
+pub use laws::{head_is_safe, link_is_safe, tour_is_safe, way_home_is_safe};
 pub use links::{goes_clear, home, link, link_known};
 pub use visit::Visit;

@@ -358,7 +358,7 @@ fn feed_to(from: Pt3, to: Pt3) -> Move
 }
 
 /// The rapid from one place to another.
-fn rapid_to(from: Pt3, to: Pt3) -> Move
+pub(crate) fn rapid_to(from: Pt3, to: Pt3) -> Move
     ensures { result ≡ rapid_of from to }
 {
     Move {

@@ -5,14 +5,14 @@ use Rattle.mill_base.specs.declared.limits.TheConstants.{MAX_FILE_BYTES}
 use Rattle.mill_base.specs.declared.points.Pt3.{Pt3}
 use Rattle.mill_base.specs.declared.motion.Move.{Move}
 use Rattle.mill_base.specs.declared.unit.Unit.{Unit as LengthUnit}
-use Rattle.mill_base.specs.Motion.{Follow}
 use Rattle.mill_base.specs.Ranges.{MovesInUnitRange}
 use Rattle.mill_io.specs.Contents.{GivesFrom}
 use Rattle.mill_io.specs.Readings.{AreHeld, Reading as FileReading}
 use Rattle.mill_io.proofs.Read.{length_more, read_more, read_all}
 use Rattle.mill_ngc.specs.Programs.{program_of}
-use Rattle.mill_ngc.specs.Pieces.{Reading, reading_at, after_lines, fed, at_end, last_answer, lines_read, AreSound, MovesSoFar}
+use Rattle.mill_ngc.specs.Pieces.{Reading, reading_at, after_lines, fed, at_end, last_answer, lines_read, AreSound, FollowOn, MovesSoFar}
 use Rattle.mill_block.specs.declared.fault.NgcFault.{NgcFault}
+use Rattle.mill_block.specs.declared.rules.Rules.{Rules}
 use Rattle.mill_ngc.proofs.JoinLemmas.{pieces_join}
 use Rattle.mill_ngc.proofs.WholeText.{last_moves, last_fault}
 use Rattle.mill_job.specs.declared.fields.JobFields.{JobFields}
@@ -22,7 +22,7 @@ use Rattle.mill_load.specs.declared.load.LoadFault.{LoadFault}
 use Rattle.mill_load.specs.declared.load.LoadFault.TheVariants.{Memory, ReadFault, Unfit}
 use Rattle.mill_load.specs.declared.load.Unfit.TheVariants.{TooLong, JobRefused, PartRefused, ListRefused, ProgramRefused, PartTop}
 use Rattle.mill_load.specs.Setup.{IsTooLong}
-use Rattle.mill_load.specs.Programs.{IsProgramText, IsRefusedProgram}
+use Rattle.mill_load.specs.Programs.{IsProgramText, IsRefusedProgram, rules_of}
 use Rattle.mill_load.specs.inner.Steps.{HasTaken, TakesFile, TakesFront, LoadsNone}
 use Rattle.mill_load.specs.Loads.{LoadsProgram, AreMoves}
 
@@ -31,22 +31,22 @@ no_front None = tt
 no_front (Some bytes) = refl
 
 -- a reader before the first byte has taken nothing
-pub taken_first : (start : Pt3) (unit : LengthUnit) (reader : Reading) (moves : List Move) → reader ≡ reading_at start unit → MovesSoFar start unit reader [] → moves ≡ [] → HasTaken start unit reader moves []
+pub taken_first : (start : Pt3) (unit : LengthUnit) (asked : Rules) (reader : Reading) (moves : List Move) → reader ≡ reading_at start unit asked → MovesSoFar start unit asked reader [] → moves ≡ [] → HasTaken start unit asked reader moves []
 unfolding fed after_lines
-taken_first start unit reader moves new_reader moves_ok none = record { all = rw (new_reader, none) refl; lines = rw new_reader (omega arith); moves_ok = rw none moves_ok }
+taken_first start unit asked reader moves new_reader moves_ok none = record { all = rw (new_reader, none) refl; lines = rw new_reader (omega arith); moves_ok = rw none moves_ok }
 
 -- and so no front but the empty one
-pub front_first : (start : Pt3) (unit : LengthUnit) (name : List ℕ) (log : List FileReading) (reader : Reading) (moves : List Move) → reader ≡ reading_at start unit → MovesSoFar start unit reader [] → moves ≡ []
-    → TakesFront start unit name log log 0 reader moves
-front_first start unit name log reader moves new_reader moves_ok none =
-    record { text = []; front = λ contents held. no_front (contents name); size = refl; taken = taken_first start unit reader moves new_reader moves_ok none }
+pub front_first : (start : Pt3) (unit : LengthUnit) (asked : Rules) (name : List ℕ) (log : List FileReading) (reader : Reading) (moves : List Move) → reader ≡ reading_at start unit asked → MovesSoFar start unit asked reader [] → moves ≡ []
+    → TakesFront start unit asked name log log 0 reader moves
+front_first start unit asked name log reader moves new_reader moves_ok none =
+    record { text = []; front = λ contents held. no_front (contents name); size = refl; taken = taken_first start unit asked reader moves new_reader moves_ok none }
 
 -- the next piece goes on the text
-pub taken_more : (start : Pt3) (unit : LengthUnit) (old new : Reading) (before moves : List Move) (text piece : List ℕ) → HasTaken start unit old before text
-    → (new, moves) ≡ fed (old, before) piece → lines_read new ≤ lines_read old + length piece → MovesSoFar start unit new moves
-    → HasTaken start unit new moves (text ++ piece)
-taken_more start unit old new before moves text piece taken all lines moves_ok = record {
-  all = all ∙ ap (λ (s : Reading × List Move). fed s piece) taken.all ∙ pieces_join (reading_at start unit, []) text piece;
+pub taken_more : (start : Pt3) (unit : LengthUnit) (asked : Rules) (old new : Reading) (before moves : List Move) (text piece : List ℕ) → HasTaken start unit asked old before text
+    → (new, moves) ≡ fed (old, before) piece → lines_read new ≤ lines_read old + length piece → MovesSoFar start unit asked new moves
+    → HasTaken start unit asked new moves (text ++ piece)
+taken_more start unit asked old new before moves text piece taken all lines moves_ok = record {
+  all = all ∙ ap (λ (s : Reading × List Move). fed s piece) taken.all ∙ pieces_join (reading_at start unit asked, []) text piece;
   lines = omega (arith, lines, taken.lines, length-append text piece);
   moves_ok = moves_ok;
 }
@@ -56,10 +56,10 @@ abbrev HoldNext : List ℕ → List FileReading → List FileReading → List Fi
 HoldNext name before now after given n buf = (contents : List ℕ → Option (List ℕ)) → AreHeld contents before after → AreHeld contents before now × IfSome (contents name) (λ bytes. GivesFrom bytes given n buf)
 
 -- the next piece of a file goes on its front
-pub front_more : (start : Pt3) (unit : LengthUnit) (name here : List ℕ) (log now after : List FileReading) (given n : ℕ) (buf : List ℕ) (old new : Reading) (before moves : List Move) → here ≡ name
-    → (f : TakesFront start unit name log now given old before) → HoldNext here log now after given n buf → n ≤ length buf
-    → HasTaken start unit new moves (f.text ++ take n buf) → TakesFront start unit name log after (given + n) new moves
-front_more start unit name here log now after given n buf old new before moves same f holds fits taken = record {
+pub front_more : (start : Pt3) (unit : LengthUnit) (asked : Rules) (name here : List ℕ) (log now after : List FileReading) (given n : ℕ) (buf : List ℕ) (old new : Reading) (before moves : List Move) → here ≡ name
+    → (f : TakesFront start unit asked name log now given old before) → HoldNext here log now after given n buf → n ≤ length buf
+    → HasTaken start unit asked new moves (f.text ++ take n buf) → TakesFront start unit asked name log after (given + n) new moves
+front_more start unit asked name here log now after given n buf old new before moves same f holds fits taken = record {
   text = f.text ++ take n buf;
   front = λ contents held.
       let next = holds contents held in
@@ -70,10 +70,10 @@ front_more start unit name here log now after given n buf old new before moves s
 }
 
 -- where no bytes come any more, the front is the whole file
-pub front_whole : (start : Pt3) (unit : LengthUnit) (name here : List ℕ) (contents : List ℕ → Option (List ℕ)) (log now : List FileReading) (given : ℕ) (buf : List ℕ) (reader : Reading) (moves : List Move) → here ≡ name
-    → TakesFront start unit name log now given reader moves → AreHeld contents log now → IfSome (contents here) (λ bytes. GivesFrom bytes given 0 buf) → 0 < length buf → given ≤ MAX_FILE_BYTES
-    → TakesFile start unit (contents name) reader moves
-front_whole start unit name here contents log now given buf reader moves same f held gives room fits =
+pub front_whole : (start : Pt3) (unit : LengthUnit) (asked : Rules) (name here : List ℕ) (contents : List ℕ → Option (List ℕ)) (log now : List FileReading) (given : ℕ) (buf : List ℕ) (reader : Reading) (moves : List Move) → here ≡ name
+    → TakesFront start unit asked name log now given reader moves → AreHeld contents log now → IfSome (contents here) (λ bytes. GivesFrom bytes given 0 buf) → 0 < length buf → given ≤ MAX_FILE_BYTES
+    → TakesFile start unit asked (contents name) reader moves
+front_whole start unit asked name here contents log now given buf reader moves same f held gives room fits =
     let next : IfSome (contents name) (λ bytes. GivesFrom bytes (length f.text) 0 buf) = rw (f.size, ← same) gives in record {
       text = f.text;
       whole = read_all (contents name) f.text buf (f.front contents held) next room;
@@ -103,33 +103,33 @@ no_text job told file (Unfit (ProgramRefused f fault)) h = absurd h
 no_text job told file (Unfit (PartTop height top unit)) h = absurd h
 
 -- the moves of a whole file
-pub file_moves : (job : JobFields) (start : Pt3) (unit : LengthUnit) (told : Option (List ℕ)) (reader : Reading) (moves all : List Move) (u : Unit {0}) → start ≡ home job → unit ≡ job.unit → TakesFile start unit told reader moves
+pub file_moves : (job : JobFields) (start : Pt3) (unit : LengthUnit) (asked : Rules) (told : Option (List ℕ)) (reader : Reading) (moves all : List Move) (u : Unit {0}) → start ≡ home job → unit ≡ job.unit → asked ≡ rules_of job → TakesFile start unit asked told reader moves
     → Ok u ≡ last_answer (at_end (reader, moves)).0 → all ≡ (at_end (reader, moves)).1 → IfSome told (λ text. IsProgramText job text all)
-file_moves job start unit None reader moves all u from of_job f e is = tt
-file_moves job start unit (Some bytes) reader moves all u from of_job f e is =
-    let reads : program_of (home job) job.unit f.text ≡ Ok all = rw (← from, ← of_job) (last_moves start unit f.text (reader, moves) u all f.taken.all e is) in
+file_moves job start unit asked None reader moves all u from of_job asks f e is = tt
+file_moves job start unit asked (Some bytes) reader moves all u from of_job asks f e is =
+    let reads : program_of (home job) job.unit (rules_of job) f.text ≡ Ok all = rw (← asks, ← from, ← of_job) (last_moves start unit asked f.text (reader, moves) u all f.taken.all e is) in
     subst (λ (t : List ℕ). IsProgramText job t all) f.whole (record { fits = f.fits; reads = reads })
 
 -- the first fault of a whole file
-pub file_fault : (job : JobFields) (start : Pt3) (unit : LengthUnit) (told : Option (List ℕ)) (reader : Reading) (moves : List Move) (fault : NgcFault) → start ≡ home job → unit ≡ job.unit → TakesFile start unit told reader moves
+pub file_fault : (job : JobFields) (start : Pt3) (unit : LengthUnit) (asked : Rules) (told : Option (List ℕ)) (reader : Reading) (moves : List Move) (fault : NgcFault) → start ≡ home job → unit ≡ job.unit → asked ≡ rules_of job → TakesFile start unit asked told reader moves
     → Err fault ≡ last_answer (at_end (reader, moves)).0 → IfSome told (λ text. IsRefusedProgram job text fault)
-file_fault job start unit None reader moves fault from of_job f e = tt
-file_fault job start unit (Some bytes) reader moves fault from of_job f e =
-    let refused : program_of (home job) job.unit f.text ≡ Err fault = rw (← from, ← of_job) (last_fault start unit f.text (reader, moves) fault f.taken.all e) in
+file_fault job start unit asked None reader moves fault from of_job asks f e = tt
+file_fault job start unit asked (Some bytes) reader moves fault from of_job asks f e =
+    let refused : program_of (home job) job.unit (rules_of job) f.text ≡ Err fault = rw (← asks, ← from, ← of_job) (last_fault start unit asked f.text (reader, moves) fault f.taken.all e) in
     subst (λ (t : List ℕ). IsRefusedProgram job t fault) f.whole (record { fits = f.fits; refused = refused })
 
 -- ---- a text that is held whole
 
 -- the moves of a whole text
-pub text_moves : (job : JobFields) (start : Pt3) (unit : LengthUnit) (text : List ℕ) (reader : Reading) (moves all : List Move) (u : Unit {0}) → start ≡ home job → unit ≡ job.unit → HasTaken start unit reader moves text
-    → Ok u ≡ last_answer (at_end (reader, moves)).0 → all ≡ (at_end (reader, moves)).1 → program_of (home job) job.unit text ≡ Ok all
-text_moves job start unit text reader moves all u from of_job taken e is = rw (← from, ← of_job) (last_moves start unit text (reader, moves) u all taken.all e is)
+pub text_moves : (job : JobFields) (start : Pt3) (unit : LengthUnit) (asked : Rules) (text : List ℕ) (reader : Reading) (moves all : List Move) (u : Unit {0}) → start ≡ home job → unit ≡ job.unit → asked ≡ rules_of job → HasTaken start unit asked reader moves text
+    → Ok u ≡ last_answer (at_end (reader, moves)).0 → all ≡ (at_end (reader, moves)).1 → program_of (home job) job.unit (rules_of job) text ≡ Ok all
+text_moves job start unit asked text reader moves all u from of_job asks taken e is = rw (← asks, ← from, ← of_job) (last_moves start unit asked text (reader, moves) u all taken.all e is)
 
 -- sound moves are moves that the verifier takes
-pub moves_ok : (job : JobFields) (start : Pt3) (unit : LengthUnit) (moves : List Move) → start ≡ home job → unit ≡ job.unit → AreSound start unit moves → AreMoves job moves
-moves_ok job start unit moves from of_job sound = record { in_range = subst (λ (u : LengthUnit). MovesInUnitRange u moves) of_job sound.in_range; follow = subst (λ (p : Pt3). Follow p moves) from sound.follow; few = sound.few }
+pub moves_ok : (job : JobFields) (start : Pt3) (unit : LengthUnit) (asked : Rules) (moves : List Move) → start ≡ home job → unit ≡ job.unit → asked ≡ rules_of job → AreSound start unit asked moves → AreMoves job moves
+moves_ok job start unit asked moves from of_job asks sound = record { in_range = subst (λ (u : LengthUnit). MovesInUnitRange u moves) of_job sound.in_range; follow = rw (← from, ← asks) sound.follow; few = sound.few }
 
 -- the first fault of a whole text
-pub text_fault : (job : JobFields) (start : Pt3) (unit : LengthUnit) (text : List ℕ) (reader : Reading) (moves : List Move) (fault : NgcFault) → start ≡ home job → unit ≡ job.unit → HasTaken start unit reader moves text
-    → Err fault ≡ last_answer (at_end (reader, moves)).0 → program_of (home job) job.unit text ≡ Err fault
-text_fault job start unit text reader moves fault from of_job taken e = rw (← from, ← of_job) (last_fault start unit text (reader, moves) fault taken.all e)
+pub text_fault : (job : JobFields) (start : Pt3) (unit : LengthUnit) (asked : Rules) (text : List ℕ) (reader : Reading) (moves : List Move) (fault : NgcFault) → start ≡ home job → unit ≡ job.unit → asked ≡ rules_of job → HasTaken start unit asked reader moves text
+    → Err fault ≡ last_answer (at_end (reader, moves)).0 → program_of (home job) job.unit (rules_of job) text ≡ Err fault
+text_fault job start unit asked text reader moves fault from of_job asks taken e = rw (← asks, ← from, ← of_job) (last_fault start unit asked text (reader, moves) fault taken.all e)

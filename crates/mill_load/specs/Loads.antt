@@ -5,12 +5,12 @@ use Rattle.mill_base.specs.declared.limits.TheConstants.{MAX_MOVES}
 use Rattle.mill_base.specs.declared.points.Tri.{Tri}
 use Rattle.mill_base.specs.declared.motion.Move.{Move}
 use Rattle.mill_base.specs.declared.unit.Unit.{Unit as LengthUnit}
-use Rattle.mill_base.specs.Motion.{Follow}
 use Rattle.mill_base.specs.Ranges.{MovesInUnitRange}
 use Rattle.mill_base.specs.Covers.{IsUnder}
 use Rattle.mill_io.specs.Causes.{Rose}
 use Rattle.mill_io.specs.Readings.{AreHeld, Reading, LastFails}
 use Rattle.mill_io.specs.Views.{StoreView, ReadsOnly}
+use Rattle.mill_ngc.specs.Pieces.{FollowOn}
 use Rattle.mill_part.specs.Tops.{IsTop}
 use Rattle.mill_part.specs.declared.part.Part.{Part}
 use Rattle.mill_job.specs.declared.fields.JobFields.{JobFields}
@@ -22,7 +22,7 @@ use Rattle.mill_load.specs.declared.load.LoadFault.{LoadFault}
 use Rattle.mill_load.specs.declared.load.LoadFault.TheVariants.{Memory, ReadFault, Unfit}
 use Rattle.mill_load.specs.declared.load.Unfit.TheVariants.{TooLong, JobRefused, PartRefused, ProgramRefused, PartTop}
 use Rattle.mill_load.specs.declared.load.Setup.{Setup}
-use Rattle.mill_load.specs.Programs.{IsProgramText, IsRefusedProgram}
+use Rattle.mill_load.specs.Programs.{IsProgramText, IsRefusedProgram, rules_of}
 use Rattle.mill_load.specs.Setup.{SetupTexts, IsTooLong, IsTooLongJob, most_bytes, IsJobText, IsRefusedJob, IsPartText, IsRefusedPart, ReadsSetup, IsUnfit, IsReadBefore}
 
 -- ---- one file
@@ -120,8 +120,8 @@ NamesFault names log (Unfit fault) = Unit {0}
 abbrev pub IsSetup : Setup → Type 0
 IsSetup s = IsUnder s.part s.job.fields.top
 
--- moves within the ranges that the verifier asks for
+-- moves within the ranges that the verifier asks for, which follow on each other as the job's programs do
 pub record AreMoves (job : JobFields) (moves : List Move) : Type 0 where
   pub in_range : MovesInUnitRange job.unit moves
-  pub follow : Follow (home job) moves
+  pub follow : FollowOn (home job) (rules_of job) moves
   pub few : length moves ≤ MAX_MOVES

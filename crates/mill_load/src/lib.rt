@@ -5,7 +5,7 @@
 //! read before; and that reading changes nothing in the store. What it says of a text is right by
 //! whatever the files hold, if they hold what the reads gave: so it is by what the store tells of them.
 //! It also reads the words of a command that say where, in the job's unit.
-//! Definitions: `specs/Setup` of job and part, `specs/Programs`, `specs/Places`, and `specs/Loads` of
+//! Definitions: `specs/Setup` of job and part, `specs/Programs` with `rules_of`, `specs/Places`, and `specs/Loads` of
 //! what reading comes to.
 #![tactic(auto)]
 
@@ -14,6 +14,7 @@ mod limits;
 mod load;
 mod place;
 mod program;
+mod rules;
 
 pub use file::File;
 pub use limits::MAX_JOB_BYTES;
@@ -23,3 +24,4 @@ pub use load::{
 };
 pub use place::{Coordinate, WordFault, read_height, read_place};
 pub use program::{load_program, moves_from, read_moves};
+pub use rules::rules_for;

@@ -1,5 +1,6 @@
 //! Reading a program: a file in pieces, or a text that is held whole.
-ghost use Rattle.std.specs.Prelude.{◌≡◌, ◌≢◌, ◌+◌, ◌<◌, ◌^◌, ◌++◌, ℕ, List, [], length, IfOk, IfErr, OnOk, Err, Ok, Option, Some};
+ghost use Rattle.std.specs.Prelude.{◌≡◌, ◌≢◌, ◌+◌, ◌<◌, ◌^◌, ◌++◌, ℕ, List, [], length, IfOk};
+ghost use Rattle.std.specs.Prelude.{IfErr, OnOk, Err, Ok, Option, Some};
 ghost use Rattle.mill_base.specs.Ranges.{IsInUnitRange};
 ghost use Rattle.mill_base.specs.declared.points.Pt3.{Pt3 as Point};
 ghost use Rattle.mill_base.specs.declared.unit.Unit.{Unit as LengthUnit};
@@ -8,24 +9,27 @@ ghost use Rattle.mill_job.specs.Columns.{home};
 ghost use Rattle.mill_ngc.specs.Pieces.{lines_read};
 ghost use Rattle.mill_ngc.specs.Programs.{program_of};
 ghost use Rattle.mill_block.specs.declared.fault.NgcFault.TheVariants.{WantOfMemory as NoMemory};
+ghost use Rattle.mill_block.specs.declared.rules.Rules.{Rules as AskedRules};
 ghost use Rattle.mill_load.specs.Loads.{LoadsProgram, NamesFault, OnlyLoads, AreMoves, CountsFault};
 ghost use Rattle.mill_load.specs.inner.Steps.{HasTaken, TakesFile, LoadsNone, IsFirst};
+ghost use Rattle.mill_load.specs.Programs.{rules_of};
 ghost use Rattle.mill_load.specs.Setup.{Fits};
 ghost use Rattle.mill_load.specs.declared.file.File.{File as AnyFile};
 
 use crate::file::File;
 use crate::load::{LoadFault, Unfit};
+use crate::rules::rules_for;
 use mill_base::{MAX_FILE_BYTES, Move, Pt3, Unit, WantOfMemory};
 use mill_io::{PieceEnd, Pieces, Shelf};
 use mill_job::Job;
-use mill_ngc::{NgcFault, Reader};
+use mill_ngc::{NgcFault, Reader, Rules};
 use std::alloc::Global;
 
 /// How many bytes of a program are read at once.
 const PIECE: usize = 65_536;
 
-/// Reads the program that `name` names, from the job's home and in the job's unit. A fault is told as
-/// that of `file`.
+/// Reads the program that `name` names, from the job's home, in the job's unit and by the job's
+/// rules. A fault is told as that of `file`.
 ///
 /// Its text is never held whole. It is read to the file's end, also behind its first fault and
 /// behind the program's end, so that a failed read and a file that is too long are told before a
@@ -53,6 +57,7 @@ pub fn load_program<S: Shelf>(
         file,
         job.home(),
         job.fields.unit,
+        rules_for(job),
         &mut buf,
         &mut moves,
     ) {
@@ -73,6 +78,7 @@ fn take_file<S: Shelf>(
     file: File,
     start: Pt3,
     unit: Unit,
+    rules: Rules,
     buf: &mut [u8],
     moves: &mut Vec<Move>,
 ) -> Result<Reader, LoadFault>
@@ -81,7 +87,8 @@ fn take_file<S: Shelf>(
     requires moves { moves.old.items ≡ [] }
     ensures takes { (contents : List ℕ → Option (List ℕ)) →
         AreHeld contents (S.shows shelf.old).log (S.shows shelf.new).log →
-        IfOk result (λ reader. TakesFile start unit (contents name.now) reader moves.new.items) }
+        IfOk result (λ reader.
+        TakesFile start unit rules (contents name.now) reader moves.new.items) }
     ensures fault { (contents : List ℕ → Option (List ℕ)) →
         AreHeld contents (S.shows shelf.old).log (S.shows shelf.new).log →
         IfErr result (LoadsNone (contents name.now) file) }
@@ -90,7 +97,7 @@ fn take_file<S: Shelf>(
     ensures store { OnlyLoads (S.shows shelf.old) (S.shows shelf.new) result }
 {
     let mut pieces = Pieces::new(shelf, name, MAX_FILE_BYTES);
-    take_pieces(&mut pieces, file, start, unit, buf, moves)
+    take_pieces(&mut pieces, file, start, unit, rules, buf, moves)
 }
 
 // The same, piece by piece.
@@ -99,6 +106,7 @@ fn take_pieces<S: Shelf>(
     file: File,
     start: Pt3,
     unit: Unit,
+    rules: Rules,
     buf: &mut [u8],
     moves: &mut Vec<Move>,
 ) -> Result<Reader, LoadFault>
@@ -109,7 +117,7 @@ fn take_pieces<S: Shelf>(
     ensures takes { (contents : List ℕ → Option (List ℕ)) →
         AreHeld contents (S.shows pieces.old.shelf.now).log (S.shows pieces.new.shelf.now).log →
         IfOk result (λ reader.
-        TakesFile start unit (contents pieces.old.name.now) reader moves.new.items) }
+        TakesFile start unit rules (contents pieces.old.name.now) reader moves.new.items) }
     ensures fault { (contents : List ℕ → Option (List ℕ)) →
         AreHeld contents (S.shows pieces.old.shelf.now).log (S.shows pieces.new.shelf.now).log →
         IfErr result (LoadsNone (contents pieces.old.name.now) file) }
@@ -118,7 +126,7 @@ fn take_pieces<S: Shelf>(
     ensures store { OnlyLoads (S.shows pieces.old.shelf.now) (S.shows pieces.new.shelf.now) result }
     ensures same_reference { pieces.new.shelf.ghost_name ≡ pieces.old.shelf.ghost_name }
 {
-    let mut reader = Reader::new(start, unit);
+    let mut reader = Reader::new(start, unit, rules);
     loop {
         let count = match pieces.next(buf) {
             Ok(0) => return Ok(reader),
@@ -134,8 +142,9 @@ fn take_pieces<S: Shelf>(
 /// reader answers it again.
 fn take_piece(reader: &mut Reader, piece: &[u8], moves: &mut Vec<Move>) -> Result<(), WantOfMemory>
     requires { lines_read reader.old + length piece.now < 2 ^ 63 }
-    ensures { (start : Point) (unit : LengthUnit) (text : List ℕ) → HasTaken start unit reader.old moves.old.items text →
-        OnOk result (HasTaken start unit reader.new moves.new.items (text ++ piece.now)) }
+    ensures { (start : Point) (unit : LengthUnit) (asked : AskedRules) (text : List ℕ) →
+        HasTaken start unit asked reader.old moves.old.items text →
+        OnOk result (HasTaken start unit asked reader.new moves.new.items (text ++ piece.now)) }
 {
     match reader.feed(piece, moves) {
         Ok(()) => Ok(()),
@@ -144,8 +153,8 @@ fn take_piece(reader: &mut Reader, piece: &[u8], moves: &mut Vec<Move>) -> Resul
     }
 }
 
-/// The moves of a program's text within the limit of a file, from the job's home and in the job's unit,
-/// or why there are none. A fault is told as that of `file`.
+/// The moves of a program's text within the limit of a file, from the job's home, in the job's
+/// unit and by the job's rules, or why there are none. A fault is told as that of `file`.
 pub fn moves_from(alloc: Global, text: &[u8], job: &Job, file: File) -> Result<Vec<Move>, LoadFault>
     requires { Fits text.now }
     ensures told { LoadsProgram job.now.fields (Some text.now) file result }
@@ -159,16 +168,19 @@ pub fn moves_from(alloc: Global, text: &[u8], job: &Job, file: File) -> Result<V
     }
 }
 
-/// The moves of a program's text of any length, from the job's home and in the job's unit, or its first
-/// fault.
+/// The moves of a program's text of any length, from the job's home, in the job's unit and by the
+/// job's rules, or its first fault.
 pub fn read_moves(alloc: Global, text: &[u8], job: &Job) -> Result<Vec<Move>, NgcFault>
-    ensures told { IfOk result (λ moves. program_of (home job.now.fields) job.now.fields.unit text.now ≡ Ok moves.items) }
+    ensures told { IfOk result (λ moves.
+        program_of (home job.now.fields) job.now.fields.unit (rules_of job.now.fields)
+        text.now ≡ Ok moves.items) }
     ensures fault { IfErr result (λ fault. fault ≢ NoMemory →
-        program_of (home job.now.fields) job.now.fields.unit text.now ≡ Err fault) }
+        program_of (home job.now.fields) job.now.fields.unit (rules_of job.now.fields)
+        text.now ≡ Err fault) }
     ensures ready { IfOk result (λ moves. AreMoves job.now.fields moves.items) }
 {
     let mut moves = Vec::new(alloc);
-    let mut reader = Reader::new(job.home(), job.fields.unit);
+    let mut reader = Reader::new(job.home(), job.fields.unit, rules_for(job));
     let Ok(()) = take_piece(&mut reader, text, &mut moves) else {
         return Err(NgcFault::WantOfMemory);
     };

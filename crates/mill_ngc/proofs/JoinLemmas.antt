@@ -1,12 +1,12 @@
 -- A text in two pieces, and a whole text.
-use Rattle.std.proofs.Common.{◌≡◌, ℕ, ◌+◌, ◌<◌, List, [], ◌∷◌, ◌++◌, length, Option, Result, Ok, Err, Bool, true, false, cond, eqb, refl, sym, ap, ◌∙◌, arith, append_assoc, length-append}
+use Rattle.std.proofs.Common.{◌≡◌, ℕ, ◌+◌, ◌<◌, List, [], ◌∷◌, ◌++◌, length, Result, Ok, Err, Bool, true, false, cond, eqb, refl, sym, ap, ◌∙◌, arith, append_assoc, length-append}
 use Rattle.std.proofs.lemmas.Bool.Decides.{nat_tests}
 use Rattle.std.specs.Prelude.{nat_lt}
 use Rattle.mill_base.specs.declared.motion.Move.{Move}
 use Rattle.mill_block.specs.declared.fault.NgcFault.{NgcFault}
 use Rattle.mill_block.specs.declared.fault.NgcFault.TheVariants as fault
 use Rattle.mill_block.specs.declared.progress.Progress.{Progress}
-use Rattle.mill_block.specs.Lines.{after_line, made_list, start_at}
+use Rattle.mill_block.specs.Lines.{after_line, start_at}
 use Rattle.mill_ngc.specs.Programs.{put_first, lines_of, moves_from, program_of}
 use Rattle.mill_ngc.specs.Pieces.{Reading, Going, Failed, reading_at, line_so_far, put_before, after_whole, after_begun, after_lines, fed, at_end, last_answer, told, PiecesJoin, ReadsProgram}
 use Rattle.mill_ngc.proofs.ProgramLemmas.{behind as moves_behind, moves_from-line, moves_from-ended}
@@ -137,12 +137,12 @@ told_by : (t : Bool) (moves : List Move) (f : NgcFault) → told moves (cond t (
 told_by true moves f = refl
 told_by false moves f = refl
 
-last_result : (p : Progress) (line : List ℕ) (moves : List Move) (r : Result (Progress × Option Move) NgcFault) → p.ended ≡ false → after_line p line ≡ r
+last_result : (p : Progress) (line : List ℕ) (moves : List Move) (r : Result (Progress × List Move) NgcFault) → p.ended ≡ false → after_line p line ≡ r
     → ending (Going p line, moves) ≡ moves_from p moves (line ∷ [])
 unfolding moves_from
 last_result p line moves (Ok s) going e =
     ap (λ (s : Reading × List Move). told s.1 (last_answer s.0)) (after_whole-ok p s.0 line line moves s.1 going e)
-    ∙ told_by s.0.ended (moves ++ made_list s.1) (fault.NoEnd s.0.line)
+    ∙ told_by s.0.ended (moves ++ s.1) (fault.NoEnd s.0.line)
     ∙ sym (moves_from-line p moves line [] going ∙ ap (moves_behind moves []) e)
 last_result p line moves (Err f) going e =
     ap (λ (s : Reading × List Move). told s.1 (last_answer s.0)) (after_whole-fault p line line moves f going e)
@@ -169,11 +169,11 @@ last_going p line moves false going = last_line p line moves (nat_lt 256 (length
 abbrev Means : List (List ℕ) → Type 0
 Means lines = (p : Progress) (moves : List Move) → ending (after_lines (Going p [], moves) lines) ≡ moves_from p moves lines
 
-next_result : (p : Progress) (line : List ℕ) (lines : List (List ℕ)) (moves : List Move) (r : Result (Progress × Option Move) NgcFault) → Means lines → p.ended ≡ false → after_line p line ≡ r
+next_result : (p : Progress) (line : List ℕ) (lines : List (List ℕ)) (moves : List Move) (r : Result (Progress × List Move) NgcFault) → Means lines → p.ended ≡ false → after_line p line ≡ r
     → ending (after_lines (after_whole (Going p []) moves line) lines) ≡ moves_from p moves (line ∷ lines)
 next_result p line lines moves (Ok s) means going e =
     ap (λ (s : Reading × List Move). ending (after_lines s lines)) (after_whole-ok p s.0 [] line moves s.1 going e)
-    ∙ means s.0 (moves ++ made_list s.1)
+    ∙ means s.0 (moves ++ s.1)
     ∙ sym (moves_from-line p moves line lines going ∙ ap (moves_behind moves lines) e)
 next_result p line lines moves (Err f) means going e =
     ap (λ (s : Reading × List Move). ending (after_lines s lines)) (after_whole-fault p [] line moves f going e)
@@ -199,6 +199,6 @@ means_some lines some = rw some.is (means_lines some.first some.rest)
 
 pub pieces_read_program : ReadsProgram
 unfolding fed program_of
-pieces_read_program start unit text =
-    ap (λ (lines : List (List ℕ)). ending (after_lines (reading_at start unit, []) lines)) (put_before-none (lines_of text) (has_first text))
-    ∙ means_some (lines_of text) (has_first text) (start_at start unit) []
+pieces_read_program start unit rules text =
+    ap (λ (lines : List (List ℕ)). ending (after_lines (reading_at start unit rules, []) lines)) (put_before-none (lines_of text) (has_first text))
+    ∙ means_some (lines_of text) (has_first text) (start_at start unit rules) []

@@ -1,11 +1,14 @@
 mod Feeds
 mod LineLemmas
+mod Ways
+pub mod Follows
 mod ProgramLemmas
 mod PieceLemmas
 mod ShownLemmas
 pub mod JoinLemmas
 pub mod WholeText
 pub mod MoveLines
+mod Heads
 mod TextLemmas
 mod Cutting
 mod Numerals

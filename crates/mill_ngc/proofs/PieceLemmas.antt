@@ -1,5 +1,5 @@
 -- A text line by line, as a reader of its pieces takes it.
-use Rattle.std.proofs.Common.{◌≡◌, ℕ, ◌+◌, ◌<◌, List, [], ◌∷◌, ◌++◌, length, Option, Some, None, Result, Ok, Err, Bool, true, false, cond, eqb, refl, sym, ap, ◌∙◌, arith, rules, append_assoc}
+use Rattle.std.proofs.Common.{◌≡◌, ℕ, ◌+◌, ◌<◌, List, [], ◌∷◌, ◌++◌, length, Option, Some, Result, Ok, Err, Bool, true, false, cond, eqb, refl, sym, ap, ◌∙◌, arith, rules, append_assoc}
 use Rattle.std.proofs.lemmas.Bool.Decides.{nat_tests}
 use Rattle.std.specs.Prelude.{⊤, ◌≢◌, nat_lt, OnOk, IfErr}
 use Rattle.mill_base.specs.Ranges.{IsInUnitRange}
@@ -7,10 +7,10 @@ use Rattle.mill_base.specs.declared.motion.Move.{Move}
 use Rattle.mill_block.specs.declared.fault.NgcFault.{NgcFault}
 use Rattle.mill_block.specs.declared.fault.NgcFault.TheVariants as fault
 use Rattle.mill_block.specs.declared.progress.Progress.{Progress}
-use Rattle.mill_block.specs.Lines.{after_line, made_list}
+use Rattle.mill_block.specs.Lines.{after_line}
 use Rattle.mill_ngc.specs.Programs.{put_first, lines_of}
 use Rattle.mill_ngc.specs.Pieces.{Reading, Going, Failed, put_before, after_result, after_whole, after_begun, after_lines, fed, IsFront}
-use Rattle.mill_block.specs.Kept.{KeepsMove, Keeps}
+use Rattle.mill_block.specs.Kept.{Keeps}
 use Rattle.mill_ngc.specs.Texts.{shown}
 use Rattle.mill_ngc.specs.declared.text_reader.TextReader.{TextReader}
 
@@ -45,8 +45,8 @@ after_lines-next s line lines h = rw h.is refl
 pub after_whole-going : (p : Progress) (so_far line : List ℕ) (moves : List Move) → p.ended ≡ false → after_whole (Going p so_far) moves line ≡ after_result moves (after_line p line)
 after_whole-going p so_far line moves going = rw going refl
 
-pub after_whole-ok : (p q : Progress) (so_far line : List ℕ) (moves : List Move) (made : Option Move) → p.ended ≡ false → after_line p line ≡ Ok (q, made)
-    → after_whole (Going p so_far) moves line ≡ (Going q [], moves ++ made_list made)
+pub after_whole-ok : (p q : Progress) (so_far line : List ℕ) (moves : List Move) (made : List Move) → p.ended ≡ false → after_line p line ≡ Ok (q, made)
+    → after_whole (Going p so_far) moves line ≡ (Going q [], moves ++ made)
 after_whole-ok p q so_far line moves made going h = after_whole-going p so_far line moves going ∙ ap (after_result moves) h
 
 pub after_whole-fault : (p : Progress) (so_far line : List ℕ) (moves : List Move) (f : NgcFault) → p.ended ≡ false → after_line p line ≡ Err f
@@ -106,17 +106,17 @@ fed-whole p so_far moves piece line behind e =
     let cut : put_before so_far (lines_of piece) ≡ (so_far ++ line) ∷ lines_of behind = rw e refl in
     ap (after_lines (Going p so_far, moves)) cut ∙ after_lines-next (Going p so_far, moves) (so_far ++ line) (lines_of behind) (has_first behind)
 
--- a line that makes its move
-pub fed-next : (p q : Progress) (so_far now : List ℕ) (moves : List Move) (made : Option Move) (piece line behind : List ℕ) (total : Reading × List Move)
+-- a line that makes its moves
+pub fed-next : (p q : Progress) (so_far now : List ℕ) (moves : List Move) (made : List Move) (piece line behind : List ℕ) (total : Reading × List Move)
     → p.ended ≡ false → lines_of piece ≡ line ∷ lines_of behind → after_line p (so_far ++ line) ≡ Ok (q, made) → now ≡ []
-    → fed (Going p so_far, moves) piece ≡ total → fed (Going q now, moves ++ made_list made) behind ≡ total
+    → fed (Going p so_far, moves) piece ≡ total → fed (Going q now, moves ++ made) behind ≡ total
 unfolding fed
 fed-next p q so_far now moves made piece line behind total going e h none told =
     let first = fed-whole p so_far moves piece line behind e in
     let there = ap (λ (s : Reading × List Move). after_lines s (lines_of behind)) (after_whole-ok p q so_far (so_far ++ line) moves made going h) in
     let cut : put_before now (lines_of behind) ≡ lines_of behind = rw none (put_before-none (lines_of behind) (has_first behind)) in
-    let begun : (Going q now, moves ++ made_list made) ≡ (Going q [], moves ++ made_list made) = rw none refl in
-    ap (after_lines (Going q now, moves ++ made_list made)) cut
+    let begun : (Going q now, moves ++ made) ≡ (Going q [], moves ++ made) = rw none refl in
+    ap (after_lines (Going q now, moves ++ made)) cut
     ∙ ap (λ (s : Reading × List Move). after_lines s (lines_of behind)) begun
     ∙ sym there ∙ sym first ∙ told
 
@@ -140,9 +140,9 @@ front-more a b c first next = record { rest = first.rest ++ next.rest; is = next
 pub front-add : (a more : List Move) → IsFront a (a ++ more)
 front-add a more = record { rest = more; is = refl }
 
-front-result : (p : Progress) (so_far line : List ℕ) (moves : List Move) (r : Result (Progress × Option Move) NgcFault) → p.ended ≡ false → after_line p line ≡ r
+front-result : (p : Progress) (so_far line : List ℕ) (moves : List Move) (r : Result (Progress × List Move) NgcFault) → p.ended ≡ false → after_line p line ≡ r
     → IsFront moves (after_whole (Going p so_far) moves line).1
-front-result p so_far line moves (Ok s) going h = rw (after_whole-ok p s.0 so_far line moves s.1 going h) (front-add moves (made_list s.1))
+front-result p so_far line moves (Ok s) going h = rw (after_whole-ok p s.0 so_far line moves s.1 going h) (front-add moves s.1)
 front-result p so_far line moves (Err f) going h = rw (after_whole-fault p so_far line moves f going h) (front-same moves)
 
 front-going : (p : Progress) (so_far line : List ℕ) (moves : List Move) (t : Bool) → p.ended ≡ t → IsFront moves (after_whole (Going p so_far) moves line).1
@@ -182,12 +182,8 @@ begun_fault (Ok u) begun total moves told is = tt
 begun_fault (Err f) begun total moves told is = λ _. told ∙ ap (λ (r : Reading). (r, moves)) is
 
 -- a line leaves the tool in range
-stays_in_range : (p q : Progress) (made : Option Move) → IsInUnitRange p.unit p.here → KeepsMove p made q → IsInUnitRange p.unit q.here
-stays_in_range p q None here keeps = rw keeps.stays here
-stays_in_range p q (Some m) here keeps = keeps.in_range
-
-pub keeps_range : (p q : Progress) (made : Option Move) → IsInUnitRange p.unit p.here → Keeps p made q → IsInUnitRange q.unit q.here
-keeps_range p q made here keeps = rw keeps.same_unit (stays_in_range p q made here keeps.move_is)
+pub keeps_range : (p q : Progress) (made : List Move) → Keeps p made q → IsInUnitRange q.unit q.here
+keeps_range p q made keeps = rw keeps.same_unit keeps.here
 
 -- a reader with a fault stays as it is
 pub fed-kept : (kept : Option NgcFault) (f : NgcFault) (t : TextReader) (r : Reading) (moves : List Move) (piece : List ℕ) → kept ≡ Some f → shown kept t ≡ r → (r, moves) ≡ fed (r, moves) piece

@@ -1,5 +1,5 @@
 -- What a reader has read that is given a program in pieces: the lines that are whole so far, and the bytes behind them.
-use Rattle.std.specs.Prelude.{◌≡◌, ⊤, ℕ, ◌+◌, ◌≤◌, nat_lt, if◌then◌else◌, List, [], ◌∷◌, ◌++◌, length, Option, Result, Ok, Err}
+use Rattle.std.specs.Prelude.{◌≡◌, ⊤, ℕ, ◌+◌, ◌≤◌, ◌≤ℤ◌, ◌⊎◌, false, nat_lt, if◌then◌else◌, List, [], ◌∷◌, ◌++◌, length, Result, Ok, Err}
 use Rattle.mill_base.specs.declared.limits.TheConstants.{MAX_MOVES}
 use Rattle.mill_base.specs.declared.points.Pt3.{Pt3}
 use Rattle.mill_base.specs.declared.motion.Move.{Move}
@@ -9,8 +9,12 @@ use Rattle.mill_base.specs.Ranges.{IsInUnitRange, MovesInUnitRange}
 use Rattle.mill_block.specs.declared.fault.NgcFault.{NgcFault}
 use Rattle.mill_block.specs.declared.fault.NgcFault.TheVariants as fault
 use Rattle.mill_block.specs.declared.progress.Progress.{Progress}
-use Rattle.mill_block.specs.Lines.{after_line, made_list, start_at}
+use Rattle.mill_block.specs.Kept.{end_of}
+use Rattle.mill_block.specs.Lines.{after_line, start_at}
+use Rattle.mill_block.specs.Motion.{known_of}
+use Rattle.mill_block.specs.declared.progress.Known.TheVariants.{All}
 use Rattle.mill_ngc.specs.Programs.{lines_of, program_of}
+use Rattle.mill_block.specs.declared.rules.Rules.{Rules}
 
 -- ---- the state of a reader
 
@@ -19,9 +23,9 @@ pub data Reading : Type 0 where
   Going : Progress → List ℕ → Reading
   Failed : NgcFault → Reading
 
--- before the first byte, with the tool at this point and coordinates in this unit
-abbrev pub reading_at : Pt3 → Unit → Reading
-reading_at start unit = Going (start_at start unit) []
+-- before the first byte, with the tool at this point, or anywhere, and coordinates in this unit
+abbrev pub reading_at : Pt3 → Unit → Rules → Reading
+reading_at start unit rules = Going (start_at start unit rules) []
 
 -- the bytes behind the last line end
 abbrev pub line_so_far : Reading → List ℕ
@@ -40,9 +44,9 @@ abbrev pub put_before : List ℕ → List (List ℕ) → List (List ℕ)
 put_before first [] = first ∷ []
 put_before first (line ∷ lines) = (first ++ line) ∷ lines
 
--- a whole line makes its move, or is the program's fault
-abbrev pub after_result : List Move → Result (Progress × Option Move) NgcFault → Reading × List Move
-after_result moves (Ok s) = (Going s.0 [], moves ++ made_list s.1)
+-- a whole line makes its moves, or is the program's fault
+abbrev pub after_result : List Move → Result (Progress × List Move) NgcFault → Reading × List Move
+after_result moves (Ok s) = (Going s.0 [], moves ++ s.1)
 after_result moves (Err f) = (Failed f, moves)
 
 -- the state and the moves behind a whole line; behind the program's end, and behind a fault, nothing counts
@@ -90,31 +94,36 @@ pub record IsFront (moves all : List Move) : Type 0 where
   pub rest : List Move
   pub is : all ≡ moves ++ rest
 
--- the moves follow on each other from the start, in the unit's range and not too many
-pub record AreSound (start : Pt3) (unit : Unit) (moves : List Move) : Type 0 where
+-- the moves follow on each other from a place: from the start, or where the tool may be anywhere before the program, from any that is no lower
+pub record FollowOn (start : Pt3) (rules : Rules) (moves : List Move) : Type 0 where
+  pub from : Pt3
+  pub over : start.z ≤ℤ from.z
+  pub at_start : rules.from_anywhere ≡ false → from ≡ start
+  pub follow : Follow from moves
+
+-- so they do, in the unit's range and not too many
+pub record AreSound (start : Pt3) (unit : Unit) (rules : Rules) (moves : List Move) : Type 0 where
   pub in_range : MovesInUnitRange unit moves
-  pub follow : Follow start moves
+  pub follow : FollowOn start rules moves
   pub few : length moves ≤ MAX_MOVES
 
--- where the tool stands behind the moves
-abbrev pub end_of : Pt3 → List Move → Pt3
-end_of start [] = start
-end_of start (m ∷ moves) = end_of m.to moves
-
--- they lead to where the whole lines have left the tool, and are as many as these have made
-pub record SoFar (start : Pt3) (unit : Unit) (p : Progress) (moves : List Move) : Type 0 where
+-- they lead to where the whole lines have left the tool, and are as many as these have made; there are none before its place is known, and the height that is known till then is no lower than the start's
+pub record SoFar (start : Pt3) (unit : Unit) (rules : Rules) (p : Progress) (moves : List Move) : Type 0 where
+  pub rules_are : p.rules ≡ rules
   pub unit_is : p.unit ≡ unit
   pub here : IsInUnitRange unit p.here
   pub in_range : MovesInUnitRange unit moves
-  pub follow : Follow start moves
-  pub end : end_of start moves ≡ p.here
+  pub follow : FollowOn start rules moves
+  pub end : known_of p ≡ All → end_of follow.from moves ≡ p.here
+  pub none : (known_of p ≡ All) ⊎ (moves ≡ [])
+  pub high : (known_of p ≡ All) ⊎ (start.z ≤ℤ p.here.z)
   pub count : length moves ≡ p.moves
   pub few : p.moves ≤ MAX_MOVES
 
 -- the moves that a reader has made so far
-abbrev pub MovesSoFar : Pt3 → Unit → Reading → List Move → Type 0
-MovesSoFar start unit (Going p line) moves = SoFar start unit p moves
-MovesSoFar start unit (Failed f) moves = AreSound start unit moves
+abbrev pub MovesSoFar : Pt3 → Unit → Rules → Reading → List Move → Type 0
+MovesSoFar start unit rules (Going p line) moves = SoFar start unit rules p moves
+MovesSoFar start unit rules (Failed f) moves = AreSound start unit rules moves
 
 -- ---- laws
 
@@ -129,5 +138,5 @@ told moves (Err f) = Err f
 
 -- what is read of a whole text is what it means
 abbrev pub ReadsProgram : Type 0
-ReadsProgram = (start : Pt3) (unit : Unit) (text : List ℕ) →
-    told (at_end (fed (reading_at start unit, []) text)).1 (last_answer (at_end (fed (reading_at start unit, []) text)).0) ≡ program_of start unit text
+ReadsProgram = (start : Pt3) (unit : Unit) (rules : Rules) (text : List ℕ) →
+    told (at_end (fed (reading_at start unit rules, []) text)).1 (last_answer (at_end (fed (reading_at start unit rules, []) text)).0) ≡ program_of start unit rules text

@@ -7,7 +7,8 @@ use Rattle.mill_block.specs.declared.fault.NgcFault.{NgcFault}
 use Rattle.mill_block.specs.declared.fault.NgcFault.TheVariants as fault
 use Rattle.mill_block.specs.declared.progress.Progress.{Progress}
 use Rattle.mill_block.specs.Said.{◌>>=◌}
-use Rattle.mill_block.specs.Lines.{after_line, made_list, start_at}
+use Rattle.mill_block.specs.Lines.{after_line, start_at}
+use Rattle.mill_block.specs.declared.rules.Rules.{Rules}
 
 -- ---- lines
 
@@ -33,8 +34,8 @@ unfoldable pub moves_from : Progress → List Move → List (List ℕ) → Resul
 moves_from p moves [] = if p.ended then Ok moves else Err (fault.NoEnd p.line)
 moves_from p moves (line ∷ lines) =
     if p.ended then Ok moves else
-    (after_line p line >>= λ s. moves_from s.0 (moves ++ made_list s.1) lines)
+    (after_line p line >>= λ s. moves_from s.0 (moves ++ s.1) lines)
 
--- what a program's text means from a start, in a unit
-unfoldable pub program_of : Pt3 → Unit → List ℕ → Result (List Move) NgcFault
-program_of start unit text = moves_from (start_at start unit) [] (lines_of text)
+-- what a program's text means from a start, in a unit, where this is asked of it beside
+unfoldable pub program_of : Pt3 → Unit → Rules → List ℕ → Result (List Move) NgcFault
+program_of start unit rules text = moves_from (start_at start unit rules) [] (lines_of text)

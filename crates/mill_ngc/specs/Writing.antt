@@ -1,9 +1,10 @@
 -- The text of a list of moves.
-use Rattle.std.specs.Prelude.{ℕ, ℤ, codes, List, [], ◌∷◌, ◌++◌, map}
+use Rattle.std.specs.Prelude.{ℕ, ℤ, codes, List, [], ◌∷◌, ◌++◌, map, Option, Some, None}
 use Rattle.std.specs.List.{flat_map}
 use Rattle.mill_base.specs.declared.motion.Kind.{Kind}
 use Rattle.mill_base.specs.declared.motion.Kind.TheVariants.{Rapid, Feed}
 use Rattle.mill_base.specs.declared.motion.Move.{Move}
+use Rattle.mill_base.specs.declared.points.Pt3.{Pt3}
 use Rattle.mill_base.specs.declared.unit.Unit.{Unit}
 use Rattle.mill_decimal.specs.Decimals.{canonical}
 
@@ -22,15 +23,39 @@ axis_word unit letter units = 32 ∷ letter ∷ canonical unit units
 unfoldable pub move_line : Unit → Move → List ℕ
 move_line unit m = motion_word m.kind ++ axis_word unit 88 m.to.x ++ axis_word unit 89 m.to.y ++ axis_word unit 90 m.to.z
 
+-- ---- the way to the first place
+
+-- a rapid of length 0, where the tool is already
+abbrev pub stay : Pt3 → Move
+stay p = record { kind = Rapid; from = p; to = p }
+
+-- the moves of a way to this place from wherever the tool is: its two lines make one each, at the place that it leads to
+abbrev pub head_moves : Option Pt3 → List Move
+head_moves None = []
+head_moves (Some p) = stay p ∷ stay p ∷ []
+
+-- straight up to the place's height
+unfoldable pub up_line : Unit → Pt3 → List ℕ
+up_line unit p = codes "G0" ++ axis_word unit 90 p.z
+
+-- and from there across to the place
+unfoldable pub across_line : Unit → Pt3 → List ℕ
+across_line unit p = codes "G0" ++ axis_word unit 88 p.x ++ axis_word unit 89 p.y
+
+abbrev pub head_lines : Unit → Option Pt3 → List (List ℕ)
+head_lines unit None = []
+head_lines unit (Some p) = up_line unit p ∷ across_line unit p ∷ []
+
 -- ---- the program
 
 -- a line with its line feed, which is 10
 abbrev pub ended : List ℕ → List ℕ
 ended line = line ++ 10 ∷ []
 
-abbrev pub program_lines : Unit → List Move → List (List ℕ)
-program_lines unit moves = codes "%" ∷ codes "G17 G21 G90" ∷ (map (move_line unit) moves ++ codes "M2" ∷ codes "%" ∷ [])
+-- behind the header the way to the first place, if there is one, and the moves' own lines
+abbrev pub program_lines : Unit → Option Pt3 → List Move → List (List ℕ)
+program_lines unit begin moves = codes "%" ∷ codes "G17 G21 G90" ∷ (head_lines unit begin ++ (map (move_line unit) moves ++ codes "M2" ∷ codes "%" ∷ []))
 
 -- the lines one after another
-unfoldable pub program_text : Unit → List Move → List ℕ
-program_text unit moves = flat_map ended (program_lines unit moves)
+unfoldable pub program_text : Unit → Option Pt3 → List Move → List ℕ
+program_text unit begin moves = flat_map ended (program_lines unit begin moves)

@@ -3,13 +3,15 @@ ghost use Rattle.std.specs.Prelude.{◌≡◌, ◌≢◌, ◌<◌, ◌≤◌, �
 ghost use Rattle.mill_base.specs.Ranges.{IsInUnitRange};
 ghost use Rattle.mill_base.specs.declared.points.Pt3.{Pt3};
 ghost use Rattle.mill_base.specs.declared.unit.Unit.{Unit};
-ghost use Rattle.mill_ngc.specs.Pieces.{Reading, reading_at, lines_read, fed, at_end, answer, last_answer, IsFront, MovesSoFar, AreSound};
+ghost use Rattle.mill_block.specs.declared.rules.Rules.{Rules};
+ghost use Rattle.mill_ngc.specs.Pieces.{Reading, reading_at, lines_read, fed, at_end, answer};
+ghost use Rattle.mill_ngc.specs.Pieces.{last_answer, IsFront, MovesSoFar, AreSound};
 ghost use Rattle.mill_ngc.specs.Texts.{shown, StandsInRange};
 ghost use Rattle.mill_block.specs.declared.fault.NgcFault.TheVariants as faults;
 
 use crate::text_reader::TextReader;
 use mill_base::{Move, Pt3, Unit};
-use mill_block::NgcFault;
+use mill_block::{NgcFault, Rules};
 use std::marker::Model;
 
 /// Reads a program's text, which comes in pieces, cut anywhere, as moves.
@@ -43,14 +45,16 @@ impl Model for Reader {
 
 impl Reader {
     /// A reader before the first piece. The first move begins at `start`, and coordinates are read
-    /// to whole units.
-    pub fn new(start: Pt3, unit: Unit) -> Self
+    /// to whole units. `rules` says what is asked of the program beside what its words mean; where
+    /// the tool may be anywhere before it, `start` says no more than the least height of the way
+    /// up, and the moves begin where the way across ends.
+    pub fn new(start: Pt3, unit: Unit, rules: Rules) -> Self
         requires { IsInUnitRange unit start }
-        ensures reading { result ≡ reading_at start unit }
-        ensures moves { MovesSoFar start unit result [] }
+        ensures reading { result ≡ reading_at start unit rules }
+        ensures moves { MovesSoFar start unit rules result [] }
     {
         Reader {
-            text: TextReader::new(start, unit),
+            text: TextReader::new(start, unit, rules),
             fault: None,
         }
     }
@@ -71,8 +75,9 @@ impl Reader {
         ensures front { IsFront out.new.items (fed (self.old, out.old.items) piece.now).1 }
         ensures grows { IsFront out.old.items out.new.items }
         ensures lines { lines_read self.new ≤ lines_read self.old + length piece.now }
-        ensures moves { (start : Pt3) (unit : Unit) → MovesSoFar start unit self.old out.old.items →
-            MovesSoFar start unit self.new out.new.items }
+        ensures moves { (start : Pt3) (unit : Unit) (rules : Rules) →
+            MovesSoFar start unit rules self.old out.old.items →
+            MovesSoFar start unit rules self.new out.new.items }
     {
         if let Some(fault) = self.fault {
             return Err(fault);
@@ -86,18 +91,21 @@ impl Reader {
         }
     }
 
-    /// Ends the text, and adds the move of its last line to `out` if that has one.
+    /// Ends the text, and adds the moves of its last line to `out`.
     ///
     /// The answer is the text's first fault, if it has one: an earlier one again, one of the last
     /// line, or `NoEnd`.
     pub fn finish(self, out: &mut Vec<Move>) -> Result<(), NgcFault>
         requires { lines_read self < 2 ^ 63 }
-        ensures moves_are { result ≢ Err faults.WantOfMemory → out.new.items ≡ (at_end (self, out.old.items)).1 }
-        ensures answer { result ≢ Err faults.WantOfMemory → result ≡ last_answer (at_end (self, out.old.items)).0 }
+        ensures moves_are { result ≢ Err faults.WantOfMemory →
+            out.new.items ≡ (at_end (self, out.old.items)).1 }
+        ensures answer { result ≢ Err faults.WantOfMemory →
+            result ≡ last_answer (at_end (self, out.old.items)).0 }
         ensures front { IsFront out.new.items (at_end (self, out.old.items)).1 }
         ensures grows { IsFront out.old.items out.new.items }
-        ensures moves { (start : Pt3) (unit : Unit) → MovesSoFar start unit self out.old.items →
-            AreSound start unit out.new.items }
+        ensures moves { (start : Pt3) (unit : Unit) (rules : Rules) →
+            MovesSoFar start unit rules self out.old.items →
+            AreSound start unit rules out.new.items }
     {
         if let Some(fault) = self.fault {
             return Err(fault);

@@ -1,5 +1,6 @@
 //! A program's text, line by line.
-ghost use Rattle.std.specs.Prelude.{◌≡◌, ◌+◌, ◌-◌, ◌^◌, ◌<◌, ◌≤◌, List, [], ◌∷◌, ◌++◌, IfOk, OnOk, length, replicate};
+ghost use Rattle.std.specs.Prelude.{◌≡◌, ◌+◌, ◌-◌, ◌^◌, ◌<◌, ◌≤◌, List, [], ◌∷◌, ◌++◌, IfOk, OnOk};
+ghost use Rattle.std.specs.Prelude.{length, replicate};
 ghost use Rattle.mill_base.specs.Ranges.{IsInUnitRange};
 ghost use Rattle.mill_base.specs.declared.limits.TheConstants.{MAX_FILE_BYTES};
 ghost use Rattle.mill_base.specs.declared.motion.Move.{Move as OneMove};
@@ -9,13 +10,15 @@ ghost use Rattle.mill_ngc.specs.Lines.{ArePlaces};
 
 use crate::line_end::line_end;
 use crate::place::LineSpan;
-use crate::{NgcFault, Reader};
+use crate::{NgcFault, Reader, Rules};
 use mill_base::{Move, Pt3, Unit, WantOfMemory};
 use std::alloc::Global;
 
 /// Where each move of a program's text stands, in the order of the moves.
 ///
-/// The first move begins at `start`, and coordinates are read to whole units, as `mill_ngc` reads them.
+/// The first move begins at `start`, and coordinates are read to whole units, as a [`Reader`] with
+/// these rules reads them. A move stands on the line that makes it; where the tool may be anywhere
+/// before the program, the line across makes the first two.
 /// Where the text is refused, these are the moves before its first fault. The text has at most 2^26 bytes.
 /// The only error is want of memory, for the moves and their places.
 pub fn places(
@@ -23,17 +26,19 @@ pub fn places(
     text: &[u8],
     start: Pt3,
     unit: Unit,
+    rules: Rules,
 ) -> Result<Vec<LineSpan>, WantOfMemory>
     requires start { IsInUnitRange unit start }
     requires fits { length text.now ≤ MAX_FILE_BYTES }
-    ensures places { IfOk result (λ places. ArePlaces start unit text.now places.items) }
+    ensures places { IfOk result (λ places. ArePlaces start unit rules text.now places.items) }
 
     // A program has a place for each of its moves.
-    ensures all { IfOk result (λ places. (moves : List OneMove) → program_of start unit text.now ≡ Ok moves →
+    ensures all { IfOk result (λ places. (moves : List OneMove) →
+        program_of start unit rules text.now ≡ Ok moves →
         length places.items ≡ length moves) }
 {
     let mut walk = Walk {
-        reader: Reader::new(start, unit),
+        reader: Reader::new(start, unit, rules),
         moves: Vec::new(alloc),
         places: Vec::new(alloc),
     };
@@ -69,7 +74,8 @@ fn read_line(walk: &mut Walk, line: &[u8], place: LineSpan) -> Result<(), WantOf
     requires even { length walk.old.places.items ≡ length walk.old.moves.items }
     ensures read { OnOk result ((walk.new.reader, walk.new.moves.items)
         ≡ fed (walk.old.reader, walk.old.moves.items) (line.now ++ 10 ∷ [])) }
-    ensures lines { OnOk result (lines_read walk.new.reader ≤ lines_read walk.old.reader + length line.now + 1) }
+    ensures lines { OnOk result
+        (lines_read walk.new.reader ≤ lines_read walk.old.reader + length line.now + 1) }
     ensures more { OnOk result (length walk.old.moves.items ≤ length walk.new.moves.items) }
     ensures places { OnOk result (walk.new.places.items ≡ walk.old.places.items
         ++ replicate (length walk.new.moves.items - length walk.old.moves.items) place) }
@@ -82,7 +88,8 @@ fn read_line(walk: &mut Walk, line: &[u8], place: LineSpan) -> Result<(), WantOf
 /// Reads a piece of the text. A fault of the text ends the moves, and is no error here.
 fn read_piece(reader: &mut Reader, piece: &[u8], moves: &mut Vec<Move>) -> Result<(), WantOfMemory>
     requires { lines_read reader.old + length piece.now < 2 ^ 63 }
-    ensures read { OnOk result ((reader.new, moves.new.items) ≡ fed (reader.old, moves.old.items) piece.now) }
+    ensures read { OnOk result
+        ((reader.new, moves.new.items) ≡ fed (reader.old, moves.old.items) piece.now) }
     ensures lines { lines_read reader.new ≤ lines_read reader.old + length piece.now }
     ensures more { length moves.old.items ≤ length moves.new.items }
 {

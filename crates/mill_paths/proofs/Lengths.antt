@@ -16,8 +16,8 @@ use Rattle.mill_job.specs.Columns.{home}
 use Rattle.mill_job.specs.Jobs.{tool_of}
 use Rattle.mill_job.specs.declared.fields.JobFields.{JobFields}
 use Rattle.mill_level.specs.Waterlines.{Outline}
-use Rattle.mill_links.specs.Links.{is_same_point, IsLink, climb, cross, descend, over_stock, pecks, plunge, way_home}
-use Rattle.mill_links.specs.Tours.{AreLinks, IsTour, last_place}
+use Rattle.mill_links.specs.Links.{is_same_point, IsLink, climb, cross, descend, head, over_stock, pecks, plunge, way_home}
+use Rattle.mill_links.specs.Tours.{AreLinks, GoesThrough, IsTour, last_place}
 use Rattle.mill_links.specs.declared.visit.Visit.{Visit}
 use Rattle.mill_paths.specs.Lattices.{finish_lattice, rough_lattice, zigzag_of}
 use Rattle.mill_paths.specs.Limits.{change_count, changes_after, is_same_visit, most_changes}
@@ -68,7 +68,14 @@ module _ (job : JobFields) (part : List Tri) where
       subst (λ (ms : List Move). length ms ≤ length b) (sym h.joined)
       (subst (λ (ms : List Move). length (joined h.links) ≤ length ms) (sym g.joined) (links_begin done from first rest h.links g.links h.are g.are))
 
-  -- a plan has the moves of its tour
+  -- with what a program begins with, too
+  way_begins : (first rest : List Visit) (a b : List Move) → GoesThrough job part first a → GoesThrough job part (first ++ rest) b → length a ≤ length b
+  way_begins first rest a b h g =
+      subst (λ (ms : List Move). length ms ≤ length b) (sym h.joined)
+      (subst (λ (ms : List Move). length (head job ++ h.toured) ≤ length ms) (sym g.joined)
+      (both (head job) (head job) h.toured g.toured refl (tour_begins (head job) (home job) first rest h.toured g.toured h.tour g.tour)))
+
+  -- a plan has the moves through its visits
   tour_within : (moves : List Move) (plan : IsPlan job part moves) → length plan.toured ≤ length moves
   tour_within moves plan =
       subst (λ (ms : List Move). length plan.toured ≤ length ms) (sym plan.joined)
@@ -77,9 +84,9 @@ module _ (job : JobFields) (part : List Tri) where
 pub plan_is_longer : PlanIsLonger
 plan_is_longer job part visits begun moves are begins plan =
     let same : plan.visits ≡ begins.first ++ begins.rest = one_visits job part plan.visits visits plan.are are ∙ begins.all in
-    let tour : IsTour job part [] (home job) (begins.first ++ begins.rest) plan.toured = subst (λ (vs : List Visit). IsTour job part [] (home job) vs plan.toured) same plan.tour in
+    let tour : GoesThrough job part (begins.first ++ begins.rest) plan.toured = subst (λ (vs : List Visit). GoesThrough job part vs plan.toured) same plan.tour in
     through (length begun) (length plan.toured) (length moves)
-    (tour_begins job part [] (home job) begins.first begins.rest begun plan.toured begins.tour tour) (tour_within job part moves plan)
+    (way_begins job part begins.first begins.rest begun plan.toured begins.tour tour) (tour_within job part moves plan)
   where
     through : (a b c : ℕ) → a ≤ b → b ≤ c → a ≤ c
     through a b c h g = omega (h, g, arith)
@@ -218,6 +225,13 @@ module _ (job : JobFields) (part : List Tri) where
   tour_counts done from before visits more moves apart tour =
       subst (λ (ms : List Move). change_count visits ≤ length ms) (sym tour.joined) (counted done from before visits more tour.links apart tour.are)
 
+-- and so has a program that begins with more
+way_counts : (job : JobFields) (part : List Tri) (before visits more : List Visit) (moves : List Move) → AreMoves visits → GoesThrough job part (before ++ (visits ++ more)) moves
+    → change_count visits ≤ length moves
+way_counts job part before visits more moves apart way =
+    subst (λ (ms : List Move). change_count visits ≤ length ms) (sym way.joined)
+    (after (change_count visits) (head job) way.toured (tour_counts job part (head job) (home job) before visits more way.toured apart way.tour))
+
 over : (a b c d : ℕ) → a < b → b ≤ c → c ≤ d → a < d
 over a b c d h g k = omega (h, g, k, arith)
 
@@ -225,9 +239,9 @@ over a b c d h g k = omega (h, g, k, arith)
 plan_counts : (job : JobFields) (part : List Tri) (before visits more : List Visit) (moves : List Move) (plan : IsPlan job part moves) → AreMoves visits
     → plan.visits ≡ before ++ (visits ++ more) → most_changes < change_count visits → most_changes < length moves
 plan_counts job part before visits more moves plan apart all many =
-    let tour : IsTour job part [] (home job) (before ++ (visits ++ more)) plan.toured = subst (λ (vs : List Visit). IsTour job part [] (home job) vs plan.toured) all plan.tour in
+    let way : GoesThrough job part (before ++ (visits ++ more)) plan.toured = subst (λ (vs : List Visit). GoesThrough job part vs plan.toured) all plan.tour in
     over most_changes (change_count visits) (length plan.toured) (length moves) many
-    (tour_counts job part [] (home job) before visits more plan.toured apart tour) (tour_within job part moves plan)
+    (way_counts job part before visits more plan.toured apart way) (tour_within job part moves plan)
 
 pub many_rough : ManyRoughVisitsMakeMoves
 many_rough job part moves layer many plan =

@@ -16,8 +16,8 @@ use Rattle.mill_job.specs.declared.fields.JobFields.{JobFields}
 use Rattle.mill_level.specs.Waterlines.{IsWaterline, Outline}
 use Rattle.mill_level.proofs.Apart.{joins_are_apart}
 use Rattle.mill_level.proofs.OneWaterline.{one_waterline}
-use Rattle.mill_links.specs.Links.{IsLink, way_home}
-use Rattle.mill_links.specs.Tours.{AreLinks, IsTour, last_place}
+use Rattle.mill_links.specs.Links.{IsLink, head, way_home}
+use Rattle.mill_links.specs.Tours.{AreLinks, GoesThrough, IsTour, last_place}
 use Rattle.mill_links.specs.declared.visit.Visit.{Visit}
 use Rattle.mill_paths.specs.Lattices.{finish_lattice, rough_lattice}
 use Rattle.mill_paths.specs.Limits.{change_count}
@@ -136,6 +136,11 @@ pub one_tour : (job : JobFields) (part : List Tri) (done : List Move) (from : Pt
 one_tour job part done from visits a b h g =
     h.joined ∙ ap (λ (links : List (List Move)). flat_map (λ (link : List Move). link) links) (one_links job part done from visits h.links g.links h.are g.are) ∙ sym g.joined
 
+-- the moves from home through the visits
+one_way_through : (job : JobFields) (part : List Tri) (visits : List Visit) (a b : List Move) → GoesThrough job part visits a → GoesThrough job part visits b → a ≡ b
+one_way_through job part visits a b h g =
+    h.joined ∙ ap (λ (ms : List Move). head job ++ ms) (one_tour job part (head job) (home job) visits h.toured g.toured h.tour g.tour) ∙ sym g.joined
+
 -- a job and a part have one list of visits at most
 pub one_visits : (job : JobFields) (part : List Tri) (a b : List Visit) → ArePlanVisits job part a → ArePlanVisits job part b → a ≡ b
 one_visits job part a b h g =
@@ -148,8 +153,8 @@ one_visits job part a b h g =
 pub one_plan : OnePlan
 one_plan job part a b h g =
     let visits : h.visits ≡ g.visits = one_visits job part h.visits g.visits h.are g.are in
-    let tour : IsTour job part [] (home job) h.visits g.toured = subst (λ (vs : List Visit). IsTour job part [] (home job) vs g.toured) (sym visits) g.tour in
-    let moves : h.toured ≡ g.toured = one_tour job part [] (home job) h.visits h.toured g.toured h.tour tour in
+    let tour : GoesThrough job part h.visits g.toured = subst (λ (vs : List Visit). GoesThrough job part vs g.toured) (sym visits) g.tour in
+    let moves : h.toured ≡ g.toured = one_way_through job part h.visits h.toured g.toured h.tour tour in
     h.joined
     ∙ ap (λ (ms : List Move). ms ++ way_home job (last_place (home job) h.visits)) moves
     ∙ ap (λ (vs : List Visit). g.toured ++ way_home job (last_place (home job) vs)) visits

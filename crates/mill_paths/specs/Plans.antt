@@ -1,11 +1,11 @@
 -- The whole list of moves of a plan.
-use Rattle.std.specs.Prelude.{◌≡◌, List, [], ◌++◌}
+use Rattle.std.specs.Prelude.{◌≡◌, List, ◌++◌}
 use Rattle.mill_base.specs.declared.points.Tri.{Tri}
 use Rattle.mill_base.specs.declared.motion.Move.{Move}
 use Rattle.mill_job.specs.Columns.{home}
 use Rattle.mill_job.specs.declared.fields.JobFields.{JobFields}
 use Rattle.mill_links.specs.Links.{way_home}
-use Rattle.mill_links.specs.Tours.{IsTour, last_place}
+use Rattle.mill_links.specs.Tours.{GoesThrough, last_place}
 use Rattle.mill_links.specs.declared.visit.Visit.{Visit}
 use Rattle.mill_paths.specs.Visits.{AreRoughVisits, AreLevelVisits, AreFinishVisits}
 
@@ -19,10 +19,10 @@ pub record ArePlanVisits (job : JobFields) (part : List Tri) (visits : List Visi
   pub are_finish : AreFinishVisits job part finish
   pub all : visits ≡ rough ++ level ++ finish
 
--- the moves of a plan: from home through its visits, and home again
+-- the moves of a plan: from home through its visits, and home again. What is called the part here is all that the tool has to keep off
 pub record IsPlan (job : JobFields) (part : List Tri) (moves : List Move) : Type 0 where
   pub visits : List Visit
   pub are : ArePlanVisits job part visits
   pub toured : List Move
-  pub tour : IsTour job part [] (home job) visits toured
+  pub tour : GoesThrough job part visits toured
   pub joined : moves ≡ toured ++ way_home job (last_place (home job) visits)

@@ -6,7 +6,7 @@ pub fn one_plan()
     ensures { OnePlan }
 {}
 
-/// A plan has at least as many moves as the links to the first of its visits.
+/// A plan has at least as many moves as go through the first of its visits.
 pub fn plan_is_longer()
     ensures { PlanIsLonger }
 {}
@@ -19,7 +19,7 @@ pub fn many_visits_make_moves()
     ensures finish { ManyFinishVisitsMakeMoves }
 {}
 
-/// A tour of visits from home, and the way home from its last, go safely.
+/// From home through visits and home again the moves go safely.
 pub fn round_is_safe()
     ensures { RoundIsSafe }
 {}

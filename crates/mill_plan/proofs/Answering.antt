@@ -5,14 +5,14 @@ use Rattle.mill_base.specs.declared.motion.Move.{Move}
 use Rattle.mill_base.specs.declared.points.Tri.{Tri}
 use Rattle.mill_job.specs.declared.fields.JobFields.{JobFields}
 use Rattle.mill_paths.specs.Unique.{OnePlan}
-use Rattle.mill_ngc.specs.Writing.{program_text}
+use Rattle.mill_obstacles.specs.Faces.{obstacles_of}
 use Rattle.mill_sweep.specs.declared.leaf.Leaf.{Leaf}
 use Rattle.mill_verify.specs.Verdicts.{IsVerdict, OneVerdict}
 use Rattle.mill_verify.specs.declared.verdict.Verdict.{Verdict}
 use Rattle.mill_verify.specs.declared.verdict.Verdict.TheVariants.{Accept, Reject}
 use Rattle.mill_verify.specs.declared.verdict.Reason.TheVariants.{HolderStock, Left}
 use Rattle.mill_plan.specs.Laws.{OnePlanAnswer}
-use Rattle.mill_plan.specs.Plans.{PlanAnswer, done, too_many_nodes, too_many_moves, uncut, held, HasPlan, IsDone, IsHeld, IsOverMoves, IsPlanAnswer, IsUncut}
+use Rattle.mill_plan.specs.Plans.{PlanAnswer, done, too_many_nodes, too_many_moves, uncut, held, HasPlan, IsDone, IsHeld, IsOverMoves, IsPlanAnswer, IsUncut, plan_text}
 use Rattle.mill_plan.proofs.NodeLimits.{few_not_over, one_over}
 
 -- the numbers of two acceptances that are equal, and the column of two rejections
@@ -39,19 +39,22 @@ not_both : (n : ℕ) → n ≤ 1000000 → 1000000 < n → ⊥
 not_both n few many = omega (few, many, arith)
 
 module _ (one : OnePlan) (verdict : OneVerdict) (job : JobFields) (part : List Tri) where
+  abbrev all : List Tri
+  all = obstacles_of job part
+
   -- a plan isn't too long and short enough
-  not_long : (moves : List Move) → HasPlan job part moves → IsOverMoves job part → ⊥
+  not_long : (moves : List Move) → HasPlan job all moves → IsOverMoves job all → ⊥
   not_long moves plan over = not_both (length moves) plan.few (over.many moves plan.is)
 
   -- verdicts on plans are on one list of moves
-  on_plan : (v w : Verdict) (a b : List Move) → HasPlan job part a → HasPlan job part b → IsVerdict job part a v → IsVerdict job part b w → v ≡ w
+  on_plan : (v w : Verdict) (a b : List Move) → HasPlan job all a → HasPlan job all b → IsVerdict job part a v → IsVerdict job part b w → v ≡ w
   on_plan v w a b plan_a plan_b is_a is_b =
-      verdict job part b v w (subst (λ (moves : List Move). IsVerdict job part moves v) (one job part a b plan_a.is plan_b.is) is_a) is_b
+      verdict job part b v w (subst (λ (moves : List Move). IsVerdict job part moves v) (one job all a b plan_a.is plan_b.is) is_a) is_b
 
   both_done : (t u : List ℕ) (n m c d : ℕ) (x y : ℤ) → IsDone job part t n c x → IsDone job part u m d y → done t n c x ≡ done u m d y
   both_done t u n m c d x y a b =
       same_done t u n m c d x y
-      (a.written ∙ ap (program_text job.unit) (one job part a.moves b.moves a.plan.is b.plan.is) ∙ sym b.written)
+      (a.written ∙ ap (plan_text job) (one job all a.moves b.moves a.plan.is b.plan.is) ∙ sym b.written)
       (on_plan (Accept n c x) (Accept m d y) a.moves b.moves a.plan b.plan a.accepted b.accepted)
 
   done_or_uncut : (t : List ℕ) (n c j i : ℕ) (x s : ℤ) → IsDone job part t n c x → IsUncut job part j i s → ⊥

@@ -10,7 +10,7 @@ use Rattle.mill_base.specs.declared.points.Tri.{Tri}
 use Rattle.mill_job.specs.Columns.{home}
 use Rattle.mill_job.specs.Jobs.{IsJob}
 use Rattle.mill_job.specs.declared.fields.JobFields.{JobFields}
-use Rattle.mill_links.specs.Links.{IsLink, at_height, climb, cross, descend, feed_to, over_stock, peck_count, pecks, plunge, way_home}
+use Rattle.mill_links.specs.Links.{IsLink, at_height, climb, cross, descend, feed_to, head, over_stock, peck_count, pecks, plunge, way_home}
 use Rattle.mill_links.specs.Safety.{IsEndOf}
 use Rattle.mill_links.specs.Tours.{AreLinks, last_place}
 use Rattle.mill_links.specs.declared.visit.Visit.{Visit}
@@ -85,17 +85,18 @@ not_home job part visit ok is there = clash visit.at.z job.top job.clear is.unde
 pub finish_ends : (job : JobFields) (part : List Tri) (moves : List Move) (plan : IsPlan job part moves) → IsJob job → All (λ (v : Visit). IsEndOf moves v.at) plan.are.finish
 finish_ends job part moves plan ok =
     let are = plan.are in
-    let links : List Move = flat_map (λ (link : List Move). link) plan.tour.links in
+    let links : List Move = flat_map (λ (link : List Move). link) plan.tour.tour.links in
     let all : All (λ (v : Visit). IsOnTheWay (home job) links v.at) (are.rough ++ are.level ++ are.finish) =
-    subst (λ (vs : List Visit). All (λ (v : Visit). IsOnTheWay (home job) links v.at) vs) are.all (links_end job part [] (home job) plan.visits plan.tour.links plan.tour.are) in
+    subst (λ (vs : List Visit). All (λ (v : Visit). IsOnTheWay (home job) links v.at) vs) are.all (links_end job part (head job) (home job) plan.visits plan.tour.tour.links plan.tour.tour.are) in
     let way : All (λ (v : Visit). IsOnTheWay (home job) links v.at) are.finish =
     behind (λ (v : Visit). IsOnTheWay (home job) links v.at) (are.rough ++ are.level) are.finish all in
     let each : All (IsVisit job part) are.finish = finish_visits_are_free job part are.finish ok are.are_finish in
     λ k d inside. ends (slice_index_or are.finish k d) (each k d inside) (way k d inside)
   where
-    ends : (v : Visit) → IsVisit job part v → IsOnTheWay (home job) (flat_map (λ (link : List Move). link) plan.tour.links) v.at → IsEndOf moves v.at
+    ends : (v : Visit) → IsVisit job part v → IsOnTheWay (home job) (flat_map (λ (link : List Move). link) plan.tour.tour.links) v.at → IsEndOf moves v.at
     ends v is (inl there) = absurd (not_home job part v ok is there)
     ends v is (inr end) =
         subst (λ (ms : List Move). IsEndOf ms v.at) (sym plan.joined)
         (ends_left plan.toured (way_home job (last_place (home job) plan.visits)) v.at
-        (subst (λ (ms : List Move). IsEndOf ms v.at) (sym plan.tour.joined) end))
+        (subst (λ (ms : List Move). IsEndOf ms v.at) (sym plan.tour.joined)
+        (ends_right (head job) plan.tour.toured v.at (subst (λ (ms : List Move). IsEndOf ms v.at) (sym plan.tour.tour.joined) end))))

@@ -1,7 +1,7 @@
 -- Moves that go safely pass all tests but the holder's against the stock, each after those before it; so none of them is rejected but for stock that is left, or that
 -- the holder would touch.
 use Rattle.std.specs.Prelude.{◌≡◌, ℕ, zero, suc, ◌<◌, ℤ, ◌≤ℤ◌, List, [], ◌∷◌, ◌++◌, length, take, Contains, Option, None, IfSome}
-use Rattle.std.proofs.Common.{refl, sym, ◌∙◌, subst, arith}
+use Rattle.std.proofs.Common.{inl, inr, refl, sym, ◌∙◌, subst, arith}
 use Rattle.std.proofs.lemmas.List.{append_assoc, append-nil, get_or_default}
 use Rattle.mill_base.specs.Motion.{Follow}
 use Rattle.mill_base.specs.Ranges.{MoveInUnitRange, MovesInUnitRange}
@@ -12,19 +12,23 @@ use Rattle.mill_base.specs.declared.points.Pt3.{Pt3}
 use Rattle.mill_base.specs.declared.points.Tri.{Tri}
 use Rattle.mill_base.specs.Solids.{Solid}
 use Rattle.mill_job.specs.Columns.{IsColumn, column_x, column_y}
-use Rattle.mill_job.specs.Jobs.{IsJob, part_tool_of}
-use Rattle.mill_job.specs.Solids.{held_with, stock_solid_of}
+use Rattle.mill_job.specs.Jobs.{IsJob, part_tool_of, tool_of}
+use Rattle.mill_job.specs.Solids.{held_with, outer_of, stock_solid_of}
 use Rattle.mill_job.specs.declared.fields.JobFields.{JobFields}
+use Rattle.mill_job.specs.declared.fixtures.Fixture.{Fixture as Box}
 use Rattle.mill_gouge.specs.Gouges.{PassesPart, ToolPassesPart}
 use Rattle.mill_sweep.specs.Solids.{SolidPassesPoint}
 use Rattle.mill_sweep.specs.declared.leaf.Leaf.{Leaf}
-use Rattle.mill_dexel.specs.Tops.{ClearsColumns, HolderClearsColumns, IsTested, tested_point, top_point}
+use Rattle.mill_dexel.specs.Tops.{ClearsColumns, HolderClearsColumns, IsTested, tested_point, top_point, uncut}
 use Rattle.mill_links.specs.Safety.{AreSafe, Connect, GoSafely, IsSafeMove}
-use Rattle.mill_verify.specs.Tests.{ClearsPart, ClearsStock, GoodBefore, HolderClearsPart, IsOverFloor}
+use Rattle.mill_obstacles.specs.Faces.{obstacles_of}
+use Rattle.mill_verify.specs.Fixtures.{FailsFixture, PassesFixture, PassesFixtures, ToolPassesFixtures, fixture_at}
+use Rattle.mill_verify.proofs.Obstacles.{tool_passes_fixtures, tool_passes_part}
+use Rattle.mill_verify.specs.Tests.{ClearsFixtures, ClearsPart, ClearsStock, GoodBefore, HolderClearsFixtures, HolderClearsPart, IsOverFloor}
 use Rattle.mill_dexel.specs.Turns.{move_at}
-use Rattle.mill_verify.specs.Verdicts.{FailsHolder, FailsStock, IsRejection}
+use Rattle.mill_verify.specs.Verdicts.{FailsFixtureOn, FailsHolder, FailsHolderFixtureOn, FailsStock, IsRejection}
 use Rattle.mill_verify.specs.declared.verdict.Reason.{Reason}
-use Rattle.mill_verify.specs.declared.verdict.Reason.TheVariants.{Floor, Gouge, Holder, Rapid as RapidCut, Cut, HolderStock, Left}
+use Rattle.mill_verify.specs.declared.verdict.Reason.TheVariants.{Floor, Gouge, Holder, Fixture, HolderFixture, Rapid as RapidCut, Cut, HolderStock, Left}
 use Rattle.mill_plan.specs.Laws.{IsOfStock}
 use Rattle.mill_plan.proofs.Nested.{part_tool_passes}
 
@@ -33,6 +37,8 @@ pub record PassesFirst (job : JobFields) (part : List Tri) (moves : List Move) (
   pub floor : IsOverFloor job moves k
   pub clears : ClearsPart job part moves k
   pub holder : HolderClearsPart job part moves k
+  pub fixtures : ClearsFixtures job moves k
+  pub holder_fixtures : HolderClearsFixtures job moves k
   pub stock : ClearsStock job moves k
 
 -- so does each move
@@ -55,32 +61,10 @@ module _ (job : JobFields) (part : List Tri) where
       (λ tested j i column. safe.stock e (column_x job i) (column_y job j))
   columns done m Feed e safe = safe.depth e
 
-  pub pass_first : (from to : Pt3) (moves : List Move) → IsJob job → GoSafely job part [] from moves to → AllPassFirst job part moves
-  pass_first from to moves ok go k inside =
-      let safe : IsSafeMove job part (take k moves) (move_at moves k) = safe_at [] moves k go.safe inside in
-      let passes : ToolPassesPart (part_tool_of job) (move_at moves k) part = part_tool_passes job (move_at moves k) part ok safe.passes in
-      record {
-        floor = record { start = safe.floor_from; «end» = safe.floor_to };
-        clears = passes.cutter;
-        holder = passes.holder;
-        stock = columns (take k moves) (move_at moves k) (move_at moves k).kind refl safe;
-      }
-
   -- without a holder there is no further test
   no_holder : (done : List Move) (m : Move) → job.holder ≡ None → HolderClearsColumns job done m
   no_holder done m bare =
       subst (λ (o : Option Solid). IfSome (held_with job.slack o) (λ holder. (j i : ℕ) → IsColumn job j i → SolidPassesPoint holder m (top_point job done j i))) (sym bare) tt
-
-  pub good : (from to : Pt3) (moves : List Move) → IsJob job → job.holder ≡ None → GoSafely job part [] from moves to → GoodBefore job part moves (length moves)
-  good from to moves ok bare go k inside =
-      let first : PassesFirst job part moves k = pass_first from to moves ok go k inside in
-      record {
-        floor = first.floor;
-        clears = first.clears;
-        holder = first.holder;
-        stock = first.stock;
-        holder_stock = no_holder (take k moves) (move_at moves k) bare;
-      }
 
   pub in_range : (from to : Pt3) (moves : List Move) → GoSafely job part [] from moves to → MovesInUnitRange job.unit moves
   in_range from to moves go m member =
@@ -93,10 +77,45 @@ module _ (job : JobFields) (part : List Tri) where
   pub follow : (from to : Pt3) (moves : List Move) → GoSafely job part [] from moves to → Follow from moves
   follow from to moves go = connected from to moves go.connect
 
+module _ (job : JobFields) (part : List Tri) (from to : Pt3) (moves : List Move) (ok : IsJob job) (go : GoSafely job (obstacles_of job part) [] from moves to) where
+  -- moves that go safely past the part and the fixtures pass the part, and each fixture
+  pub pass_first : AllPassFirst job part moves
+  pass_first k inside =
+      let m : Move = move_at moves k in
+      let safe : IsSafeMove job (obstacles_of job part) (take k moves) m = safe_at job (obstacles_of job part) [] moves k go.safe inside in
+      let passes : ToolPassesPart (part_tool_of job) m part = part_tool_passes job m part ok (tool_passes_part job part m (tool_of job) safe.passes) in
+      let off : ToolPassesFixtures (tool_of job) m job.keep_out = tool_passes_fixtures job part m (tool_of job) safe.passes in
+      record {
+        floor = record { start = safe.floor_from; «end» = safe.floor_to };
+        clears = passes.cutter;
+        holder = passes.holder;
+        fixtures = off.cutter;
+        holder_fixtures = off.holder;
+        stock = columns job (obstacles_of job part) (take k moves) m m.kind refl safe;
+      }
+
+  pub good : job.holder ≡ None → GoodBefore job part moves (length moves)
+  good bare k inside =
+      let first : PassesFirst job part moves k = pass_first k inside in
+      record {
+        floor = first.floor;
+        clears = first.clears;
+        holder = first.holder;
+        fixtures = first.fixtures;
+        holder_fixtures = first.holder_fixtures;
+        stock = first.stock;
+        holder_stock = no_holder job part (take k moves) (move_at moves k) bare;
+      }
+
 -- a good move ends at or over the floor
 pub floor_at_end : (job : JobFields) (part : List Tri) (moves : List Move) (m : Move) → GoodBefore job part moves (length moves) → Contains moves m → job.floor ≤ℤ m.to.z
 floor_at_end job part moves m good member =
     subst (λ (n : Move). job.floor ≤ℤ n.to.z) (get_or_default moves member.0 _ m member.1 ∙ member.2) (good member.0 member.1).floor.«end»
+
+-- a fixture that is passed fails at no leaf
+no_fixture_fails : (solid : Solid) (m : Move) (box : Box) (leaf : Leaf) → FailsFixture solid m box leaf → PassesFixture solid m box → ⊥
+no_fixture_fails solid m box leaf (inl first) passes = first.fails passes.first
+no_fixture_fails solid m box leaf (inr second) passes = second.1.fails passes.second
 
 module _ (job : JobFields) (part : List Tri) (moves : List Move) (all : AllPassFirst job part moves) where
   -- such a move isn't stopped by a column
@@ -114,11 +133,23 @@ module _ (job : JobFields) (part : List Tri) (moves : List Move) (all : AllPassF
       subst (λ (o : Option Solid). IfSome o (λ holder. PassesPart holder (move_at moves k) part)) fails.mounted (all k fails.there).holder in
       fails.fails.fails (passes t fails.tri)
 
+  -- nor by a fixture, neither is
+  clear_of : (k b : ℕ) (leaf : Leaf) → FailsFixtureOn job part (uncut job) moves k b leaf → ⊥
+  clear_of k b leaf fails = no_fixture_fails (outer_of job) (move_at moves k) (fixture_at job.keep_out b) leaf fails.fails ((all k fails.there).fixtures b fails.fixture)
+
+  held_clear_of : (k b : ℕ) (leaf : Leaf) → FailsHolderFixtureOn job part (uncut job) moves k b leaf → ⊥
+  held_clear_of k b leaf fails =
+      let passes : PassesFixtures fails.holder (move_at moves k) job.keep_out =
+      subst (λ (o : Option Solid). IfSome o (λ holder. PassesFixtures holder (move_at moves k) job.keep_out)) fails.mounted (all k fails.there).holder_fixtures in
+      no_fixture_fails fails.holder (move_at moves k) (fixture_at job.keep_out b) leaf fails.fails (passes b fails.fixture)
+
   -- so such moves are rejected for nothing but the stock
   pub only_of_stock : (reason : Reason) → IsRejection job part moves reason → IsOfStock reason
   only_of_stock (Floor k) fails = absurd (fails.fails (all k fails.there).floor)
   only_of_stock (Gouge k t leaf) fails = absurd (fails.fails.fails ((all k fails.there).clears t fails.tri))
   only_of_stock (Holder k t leaf) fails = absurd (not_held k t leaf fails)
+  only_of_stock (Fixture k b leaf) fails = absurd (clear_of k b leaf fails)
+  only_of_stock (HolderFixture k b leaf) fails = absurd (held_clear_of k b leaf fails)
   only_of_stock (RapidCut k j i leaf) fails = absurd (not_stopped Rapid k j i leaf fails)
   only_of_stock (Cut k j i leaf) fails = absurd (not_stopped Feed k j i leaf fails)
   only_of_stock (HolderStock k j i leaf) fails = tt
@@ -130,6 +161,8 @@ pub of_stock_only : (reason : Reason) → IsOfStock reason → ((row col : ℕ) 
 of_stock_only (Floor k) stock left held = stock
 of_stock_only (Gouge k t leaf) stock left held = stock
 of_stock_only (Holder k t leaf) stock left held = stock
+of_stock_only (Fixture k b leaf) stock left held = stock
+of_stock_only (HolderFixture k b leaf) stock left held = stock
 of_stock_only (RapidCut k j i leaf) stock left held = stock
 of_stock_only (Cut k j i leaf) stock left held = stock
 of_stock_only (HolderStock k j i leaf) stock left held = held k j i leaf refl

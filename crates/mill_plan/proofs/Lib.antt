@@ -2,6 +2,8 @@ mod NodeLimits
 mod Feeding
 mod Touring
 mod Homing
+mod Heading
+mod Past
 mod Planning
 mod Nested
 mod Good

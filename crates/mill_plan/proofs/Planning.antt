@@ -3,13 +3,12 @@ use Rattle.std.specs.Prelude.{◌≡◌, ◌↔◌, ℕ, ◌<◌, ◌≤◌, pos
 use Rattle.std.specs.Global.{Vec}
 use Rattle.std.proofs.Common.{inl, inr, sym, subst, arith}
 use Rattle.std.proofs.lemmas.List.Elements.{All-append}
-use Rattle.mill_base.specs.Covers.{IsUnder}
 use Rattle.mill_base.specs.declared.motion.Move.{Move}
 use Rattle.mill_base.specs.declared.points.Tri.{Tri}
 use Rattle.mill_job.specs.Columns.{home}
 use Rattle.mill_job.specs.Jobs.{IsJob}
 use Rattle.mill_job.specs.declared.fields.JobFields.{JobFields}
-use Rattle.mill_links.specs.Safety.{GoSafely}
+use Rattle.mill_links.specs.Safety.{GoSafely, LiesUnderClear}
 use Rattle.mill_links.specs.declared.visit.Visit.{Visit}
 use Rattle.mill_paths.specs.Lattices.{finish_lattice, rough_lattice}
 use Rattle.mill_paths.specs.Limits.{HasManyNodes}
@@ -21,9 +20,9 @@ use Rattle.mill_paths.proofs.Lengths.{many_finish, many_level, many_rough, plan_
 use Rattle.mill_paths.proofs.Rounds.{round_is_safe}
 use Rattle.mill_paths.proofs.Uniqueness.{one_plan}
 use Rattle.mill_plan.specs.Faults.{plan_fault_of}
-use Rattle.mill_plan.specs.Plans.{HasFewNodes, HasPlan, IsPlanFault}
+use Rattle.mill_plan.specs.Plans.{HasFewNodes, HasPlan}
 use Rattle.mill_base.specs.declared.limits.TheConstants.{MAX_MOVES}
-use Rattle.mill_plan.specs.inner.Steps.{IsRound, IsRoundFault}
+use Rattle.mill_plan.specs.inner.Steps.{IsMovesFault, IsRound, IsRoundFault}
 use Rattle.mill_plan.specs.declared.fault.PlanFault.{PlanFault}
 use Rattle.mill_plan.specs.declared.fault.PlanFault.TheVariants.{TooManyNodes, TooManyMoves, Uncut, Held, WantOfMemory}
 
@@ -55,14 +54,14 @@ module _ (job : JobFields) (part : List Tri) where
   plan_of visits moves are round = record { visits = visits; are = are; toured = round.toured; tour = round.tour; joined = round.joined }
 
   -- it goes safely
-  pub plan_goes : (visits : List Visit) (moves : List Move) → IsJob job → IsUnder part job.top → All (IsVisit job part) visits → IsRound job part visits moves
+  pub plan_goes : (visits : List Visit) (moves : List Move) → IsJob job → LiesUnderClear job part → All (IsVisit job part) visits → IsRound job part visits moves
       → GoSafely job part [] (home job) moves (home job)
   plan_goes visits moves ok under each round =
       subst (λ (ms : List Move). GoSafely job part [] (home job) ms (home job)) (sym round.joined)
       (round_is_safe job part visits round.toured ok under each round.tour)
 
   -- a fault of the round is the planner's
-  pub round_told : (visits : List Visit) (fault : PlanFault) → HasFewNodes job → ArePlanVisits job part visits → IsRoundFault job part visits fault → IsPlanFault job part fault
+  pub round_told : (visits : List Visit) (fault : PlanFault) → HasFewNodes job → ArePlanVisits job part visits → IsRoundFault job part visits fault → IsMovesFault job part fault
   round_told visits (TooManyNodes n) nodes are h = absurd h
   round_told visits TooManyMoves nodes are (inl begun) = record {
     nodes = nodes;
@@ -83,21 +82,21 @@ module _ (job : JobFields) (part : List Tri) where
   -- so is one that the roughing, the level or the finishing visits meet
   pub rough_told : {T : Type 0} (r : Result T PathFault) (fault : PathFault) → r ≡ Err fault → HasFewNodes job
       → ((n : ℕ) → IsErrOf r (path.TooManyNodes n) ↔ (((pos 0) <ℤ job.layer) × HasManyNodes (rough_lattice job) n))
-      → (IsErrOf r path.TooManyVisits → ((pos 0) <ℤ job.layer) × HaveManyRoughVisits job part) → IsPlanFault job part (plan_fault_of fault)
+      → (IsErrOf r path.TooManyVisits → ((pos 0) <ℤ job.layer) × HaveManyRoughVisits job part) → IsMovesFault job part (plan_fault_of fault)
   rough_told r (path.TooManyNodes n) is nodes many visits = let h = (many n).0 is in inr (record { finish = nodes.finish; layer = h.0; rough = h.1 })
   rough_told r path.TooManyVisits is nodes many visits = let h = visits is in record { nodes = nodes; shown = inl (inl h.1); many = λ moves plan. many_rough job part moves h.0 h.1 plan }
   rough_told r path.WantOfMemory is nodes many visits = tt
 
   pub level_told : {T : Type 0} (r : Result T PathFault) (fault : PathFault) → r ≡ Err fault → HasFewNodes job
       → ((n : ℕ) → IsErrOf r (path.TooManyNodes n) ↔ ((0 < length job.levels) × HasManyNodes (finish_lattice job) n))
-      → (IsErrOf r path.TooManyVisits → HaveManyLevelVisits job part) → IsPlanFault job part (plan_fault_of fault)
+      → (IsErrOf r path.TooManyVisits → HaveManyLevelVisits job part) → IsMovesFault job part (plan_fault_of fault)
   level_told r (path.TooManyNodes n) is nodes many visits = inl ((many n).0 is).1
   level_told r path.TooManyVisits is nodes many visits = record { nodes = nodes; shown = inl (inr (inl (visits is))); many = λ moves plan. many_level job part moves (visits is) plan }
   level_told r path.WantOfMemory is nodes many visits = tt
 
   pub finish_told : {T : Type 0} (r : Result T PathFault) (fault : PathFault) → r ≡ Err fault → HasFewNodes job
       → ((n : ℕ) → IsErrOf r (path.TooManyNodes n) ↔ HasManyNodes (finish_lattice job) n)
-      → (IsErrOf r path.TooManyVisits → HaveManyFinishVisits job part) → IsPlanFault job part (plan_fault_of fault)
+      → (IsErrOf r path.TooManyVisits → HaveManyFinishVisits job part) → IsMovesFault job part (plan_fault_of fault)
   finish_told r (path.TooManyNodes n) is nodes many visits = inl ((many n).0 is)
   finish_told r path.TooManyVisits is nodes many visits = record { nodes = nodes; shown = inl (inr (inr (visits is))); many = λ moves plan. many_finish job part moves (visits is) plan }
   finish_told r path.WantOfMemory is nodes many visits = tt

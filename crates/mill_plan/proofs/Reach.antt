@@ -21,6 +21,7 @@ use Rattle.mill_job.specs.declared.fields.JobFields.{JobFields}
 use Rattle.mill_part.proofs.Below.{covered_below}
 use Rattle.mill_links.specs.Safety.{IsEndOf}
 use Rattle.mill_links.specs.declared.visit.Visit.{Visit}
+use Rattle.mill_obstacles.specs.Faces.{obstacles_of}
 use Rattle.mill_paths.proofs.Uniqueness.{one_finish}
 use Rattle.mill_shape.proofs.Over.{holds_over}
 use Rattle.mill_verify.specs.Tests.{GoodBefore}
@@ -60,7 +61,7 @@ free_at_end job part moves p x y ok good end =
     subst (λ (q : Pt3). ¬ SolidHolds (inner_of job) (pos 1) q (pos 1) (point_at x y (top_after job x y moves))) end.here
     (cut_at_end job moves end.move x y ok end.member (floor_at_end job part moves end.move good end.member))
 
-pub out_of_reach : (job : JobFields) (part : List Tri) (moves : List Move) (row col : ℕ) (top : ℤ) → IsJob job → HasPlan job part moves → FailsCut job part moves row col top
+pub out_of_reach : (job : JobFields) (part : List Tri) (moves : List Move) (row col : ℕ) (top : ℤ) → IsJob job → HasPlan job (obstacles_of job part) moves → FailsCut job part moves row col top
     → IsOutOfReach job part row col top
 out_of_reach job part moves row col top ok plan left visits height are highest =
     let x : ℤ = column_x job col in
@@ -69,8 +70,8 @@ out_of_reach job part moves row col top ok plan left visits height are highest =
     subst (λ (z : ℤ). ¬ Covered part job.floor job.band x y (z -ℤ job.allowance)) (sym left.shown) left.fails in
     let order : (height +ℤ job.allowance +ℤ pos 1) ≤ℤ top = over_covered part job.floor job.band x y top height job.allowance highest uncut in
     let ends : All (λ (v : Visit). IsEndOf moves v.at) visits =
-    subst (λ (vs : List Visit). All (λ (v : Visit). IsEndOf moves v.at) vs) (one_finish job part plan.is.are.finish visits plan.is.are.are_finish are)
-    (finish_ends job part moves plan.is ok) in
+    subst (λ (vs : List Visit). All (λ (v : Visit). IsEndOf moves v.at) vs) (one_finish job (obstacles_of job part) plan.is.are.finish visits plan.is.are.are_finish are)
+    (finish_ends job (obstacles_of job part) moves plan.is ok) in
     All-weaker (λ (v : Visit). IsEndOf moves v.at) (λ (v : Visit). ¬ SolidHolds (inner_of job) (pos 1) v.at (pos 1) (point_at x y (height +ℤ job.allowance +ℤ pos 1)))
     (λ v end. free_under (inner_of job).cutter (solid_tip (inner_of job) (pos 1) v.at) x y (height +ℤ job.allowance +ℤ pos 1) top order
     (subst (λ (z : ℤ). ¬ SolidHolds (inner_of job) (pos 1) v.at (pos 1) (point_at x y z)) (sym left.shown) (free_at_end job part moves v.at x y ok left.before end)))

@@ -1,5 +1,5 @@
 -- A list to which the links to the visits are added, one after the other, and when it is too long.
-use Rattle.std.specs.Prelude.{◌≡◌, ℕ, ◌+◌, ◌<◌, ◌≤◌, List, [], ◌++◌, length, take, drop, slice_index_or}
+use Rattle.std.specs.Prelude.{◌≡◌, ℕ, ◌+◌, ◌<◌, ◌≤◌, List, ◌++◌, length, take, drop, slice_index_or}
 use Rattle.std.proofs.Common.{sym, ap, ◌∙◌, subst, arith}
 use Rattle.std.proofs.lemmas.List.{take_all, take_more, take-append-drop}
 use Rattle.mill_base.specs.declared.motion.Move.{Move}
@@ -9,9 +9,9 @@ use Rattle.mill_dexel.specs.Rows.{RowState}
 use Rattle.mill_job.specs.Columns.{home}
 use Rattle.mill_job.specs.declared.fields.JobFields.{JobFields}
 use Rattle.mill_links.specs.Links.{AddsLink, FollowStock, IsLink, way_home}
-use Rattle.mill_links.specs.Tours.{IsTour, last_place}
+use Rattle.mill_links.specs.Tours.{GoesThrough, last_place}
 use Rattle.mill_links.specs.declared.visit.Visit.{Visit}
-use Rattle.mill_links.proofs.Steps.{last_snoc, tour_snoc}
+use Rattle.mill_links.proofs.Steps.{last_snoc, through_snoc}
 use Rattle.mill_base.specs.declared.limits.TheConstants.{MAX_MOVES}
 use Rattle.mill_plan.specs.inner.Feeds.{place_before}
 use Rattle.mill_plan.specs.inner.Steps.{IsLongRound, IsRound, IsTourOver}
@@ -34,12 +34,12 @@ module _ (job : JobFields) where
   module _ (part : List Tri) where
     -- the tour goes on by the link to the visit of number k
     pub tour_more : (visits : List Visit) (k : ℕ) (d : Visit) (place : Pt3) (old new : List Move) → k < length visits → place ≡ place_before job visits k
-        → IsTour job part [] (home job) (take k visits) old → AddsLink job part old place (slice_index_or visits k d) old new
-        → IsTour job part [] (home job) (take (k + 1) visits) new
+        → GoesThrough job part (take k visits) old → AddsLink job part old place (slice_index_or visits k d) old new
+        → GoesThrough job part (take (k + 1) visits) new
     tour_more visits k d place old new inside there so_far next =
-        subst (λ (ms : List Move). IsTour job part [] (home job) (take (k + 1) visits) ms) (sym next.joined)
-        (subst (λ (vs : List Visit). IsTour job part [] (home job) vs (old ++ next.moves)) (sym (take_more visits k d inside))
-        (tour_snoc job part [] (home job) (take k visits) (slice_index_or visits k d) old next.moves so_far
+        subst (λ (ms : List Move). GoesThrough job part (take (k + 1) visits) ms) (sym next.joined)
+        (subst (λ (vs : List Visit). GoesThrough job part vs (old ++ next.moves)) (sym (take_more visits k d inside))
+        (through_snoc job part (take k visits) (slice_index_or visits k d) old next.moves so_far
         (subst (λ (p : Pt3). IsLink job part old p (slice_index_or visits k d) next.moves) there next.link)))
 
     -- the rows go on with the moves of the link
@@ -48,7 +48,7 @@ module _ (job : JobFields) where
     stock_more place visit old new rows next follow = subst (λ (ms : List Move). FollowStock job ms rows) (sym next.joined) follow
 
     -- with the link to the visit of number k there are too many moves
-    pub over_at : (visits : List Visit) (k : ℕ) (moves : List Move) → IsTour job part [] (home job) (take (k + 1) visits) moves → MAX_MOVES < length moves
+    pub over_at : (visits : List Visit) (k : ℕ) (moves : List Move) → GoesThrough job part (take (k + 1) visits) moves → MAX_MOVES < length moves
         → IsTourOver job part visits
     over_at visits k moves so_far many = record {
       begun = moves;
@@ -58,10 +58,10 @@ module _ (job : JobFields) where
 
     -- the tour through all visits and the way home are a round
     pub round_made : (visits : List Visit) (k : ℕ) (place : Pt3) (toured moves : List Move) → length visits ≤ k → place ≡ place_before job visits k
-        → IsTour job part [] (home job) (take k visits) toured → moves ≡ toured ++ way_home job place → IsRound job part visits moves
+        → GoesThrough job part (take k visits) toured → moves ≡ toured ++ way_home job place → IsRound job part visits moves
     round_made visits k place toured moves past there so_far joined = record {
       toured = toured;
-      tour = subst (λ (vs : List Visit). IsTour job part [] (home job) vs toured) (take_all k visits past) so_far;
+      tour = subst (λ (vs : List Visit). GoesThrough job part vs toured) (take_all k visits past) so_far;
       joined = joined ∙ ap (λ (p : Pt3). toured ++ way_home job p) (place_at_last visits k place past there);
     }
 

@@ -1,11 +1,9 @@
 //! Who does the parts of a plan's work that don't wait for one another.
 ghost use Rattle.std.specs.Prelude.{◌≡◌, ℕ, ◌≤◌, ℤ, length, All, IfOk, Ok};
 ghost use Rattle.mill_base.specs.Covers.{IsUnder};
-ghost use Rattle.mill_base.specs.Motion.{Follow};
 ghost use Rattle.mill_base.specs.Ranges.{MovesInRange};
 ghost use Rattle.mill_base.specs.declared.limits.TheConstants.{MAX_MOVES};
 ghost use Rattle.mill_dexel.specs.Stocks.{IsStock};
-ghost use Rattle.mill_job.specs.Columns.{home};
 ghost use Rattle.mill_paths.specs.Visits.{IsVisit};
 ghost use Rattle.mill_plan.specs.inner.Feeds.{SayClear};
 ghost use Rattle.mill_verify.specs.Claims.{CutsSafely};
@@ -59,7 +57,6 @@ pub trait PlanCrew: PathCrew {
         requires crew_ok { Self.ready }
         requires moves_ok { MovesInRange moves.now }
         requires under { IsUnder part.now job.now.fields.top }
-        requires follow { Follow (home job.now.fields) moves.now }
         requires few { length moves.now ≤ MAX_MOVES }
         ensures verdict { IfOk result (IsVerdict job.now.fields part.now moves.now) }
         ensures safe { (count columns : ℕ) (left : ℤ)

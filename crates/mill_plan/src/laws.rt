@@ -14,8 +14,8 @@ pub fn one_plan_answer()
 }
 
 /// A plan, also one that has too many moves, is rejected for no reason but stock that it leaves, or that
-/// the holder would touch: none of its moves fails the test of the floor, a test of the part or the
-/// cutter's test of the stock.
+/// the holder would touch: none of its moves fails the test of the floor, a test of the part or of a
+/// fixture, or the cutter's test of the stock.
 pub fn plan_never_fails()
     ensures { PlanNeverFails }
 {

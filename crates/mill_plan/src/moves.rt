@@ -2,25 +2,24 @@ ghost use Rattle.std.specs.Prelude.{◌≡◌, ◌++◌, ◌<◌, ◌≤◌, Lis
 ghost use Rattle.mill_base.specs.declared.limits.TheConstants.{MAX_MOVES};
 ghost use Rattle.mill_base.specs.declared.motion.Move.{Move as OneMove};
 ghost use Rattle.mill_base.specs.declared.points.Tri.{Tri};
-ghost use Rattle.mill_base.specs.Covers.{IsUnder};
 ghost use Rattle.mill_base.specs.Ranges.{IsInUnitRange, MovesInRange};
 ghost use Rattle.mill_dexel.specs.Rows.{IsRowOf};
 ghost use Rattle.mill_job.specs.Columns.{home as home_of};
 ghost use Rattle.mill_links.specs.Links.{FollowStock};
-ghost use Rattle.mill_links.specs.Safety.{GoSafely};
+ghost use Rattle.mill_links.specs.Safety.{GoSafely, LiesUnderClear};
 ghost use Rattle.mill_paths.specs.Plans.{ArePlanVisits};
 ghost use Rattle.mill_paths.specs.Visits.{IsVisit};
-ghost use Rattle.mill_plan.specs.Plans.{HasFewNodes, HasPlan, IsPlanFault};
+ghost use Rattle.mill_plan.specs.Plans.{HasFewNodes, HasPlan};
 ghost use Rattle.mill_plan.specs.inner.Conditions.{AreFirstRows};
 ghost use Rattle.mill_plan.specs.inner.Feeds.{SayClear};
-ghost use Rattle.mill_plan.specs.inner.Steps.{IsNodesFault, IsRound, IsRoundFault};
+ghost use Rattle.mill_plan.specs.inner.Steps.{IsMovesFault, IsNodesFault, IsRound, IsRoundFault};
 
 use crate::crew::PlanCrew;
 use crate::fault::PlanFault;
 use mill_base::{MAX_MOVES, MAX_NODES, Move, WantOfMemory};
 use mill_dexel::{Row, cut_rows, uncut_rows};
 use mill_job::Job;
-use mill_links::{Visit, home, link_known};
+use mill_links::{Visit, head, home, link_known};
 use mill_part::SortedPart;
 use mill_paths::{
     PathCrew, finish_lattice, finish_visits, level_visits, rough_lattice, rough_visits,
@@ -50,9 +49,9 @@ pub(crate) fn check_nodes(job: &Job) -> Result<(), PlanFault>
 
 /// The moves of the plan, of which there are at most 1,000,000.
 ///
-/// They go safely from home to home. The rows are those of `rows_for_depth`; where the job limits
-/// the depth of cut, they are then those that all the moves leave. The error is that there are too
-/// many moves, or want of memory.
+/// The part is here all that the tool has to keep off. They go safely from home to home. The rows
+/// are those of `rows_for_depth`; where the job limits the depth of cut, they are then those that
+/// all the moves leave. The error is that there are too many moves, or want of memory.
 pub(crate) fn planned_moves<C: PlanCrew>(
     crew: &C,
     alloc: Global,
@@ -61,7 +60,7 @@ pub(crate) fn planned_moves<C: PlanCrew>(
     rows: &mut [Row],
 ) -> Result<Vec<Move>, PlanFault>
     requires crew_ok { C.ready }
-    requires under { IsUnder part.now job.now.fields.top }
+    requires under { LiesUnderClear job.now.fields part.now }
     requires nodes { HasFewNodes job.now.fields }
     requires rows_ok { AreFirstRows job.now.fields rows.old }
     ensures stock { IfOk result (λ moves. FollowStock job.now.fields moves.items rows.new) }
@@ -69,7 +68,7 @@ pub(crate) fn planned_moves<C: PlanCrew>(
     ensures safe { IfOk
         result
         (λ moves. GoSafely job.now.fields part.now [] (home_of job.now.fields) moves.items (home_of job.now.fields)) }
-    ensures fault { IfErr result (IsPlanFault job.now.fields part.now) }
+    ensures fault { IfErr result (IsMovesFault job.now.fields part.now) }
 {
     let visits = plan_visits(crew, alloc, job, part)?;
     let clear = crew.clear_links(alloc, job, part, &visits)?;
@@ -87,7 +86,7 @@ fn plan_visits<C: PathCrew>(
     requires nodes { HasFewNodes job.now.fields }
     ensures list { IfOk result (λ visits. ArePlanVisits job.now.fields part.now visits.items) }
     ensures each { IfOk result (λ visits. All (IsVisit job.now.fields part.now) visits.items) }
-    ensures fault { IfErr result (IsPlanFault job.now.fields part.now) }
+    ensures fault { IfErr result (IsMovesFault job.now.fields part.now) }
 {
     let mut visits = rough_visits(crew, alloc, job, part)?;
     let level = level_visits(crew, alloc, job, part)?;
@@ -108,12 +107,13 @@ pub(crate) fn rows_for_depth(alloc: Global, job: &Job) -> Result<Vec<Row>, WantO
     uncut_rows(alloc, job)
 }
 
-/// The moves from home through the visits, and home again, of which there are at most 1,000,000.
+/// The moves from home through the visits, and home again, of which there are at most 1,000,000,
+/// those with which the program begins among them.
 ///
 /// `clear` says of each visit whether the link to it is clear: for each part of which it says so,
 /// the links are those of the part's plan. The rows are those of `rows_for_depth`; all the moves
-/// cut them, those of the way home too. It ends at the first link with which there are too many
-/// moves.
+/// cut them, those at the beginning and those of the way home too. It ends at the first link with
+/// which there are too many moves.
 fn round_of(
     alloc: Global,
     job: &Job,
@@ -133,6 +133,8 @@ fn round_of(
         → IfErr result (IsRoundFault job.now.fields part visits.now) }
 {
     let mut moves = Vec::new(alloc);
+    head(job, &mut moves)?;
+    cut(job, rows, &moves);
     let mut place = job.home();
     for number in 0..visits.len() {
         let visit = visits[number];
@@ -152,8 +154,9 @@ fn round_of(
 fn cut(job: &Job, rows: &mut [Row], moves: &[Move])
     requires rows_ok { All (IsRowOf job.now.fields) rows.old }
     requires moves_ok { MovesInRange moves.now }
-    ensures { (done : List OneMove) → FollowStock job.now.fields done rows.old →
+    ensures stock { (done : List OneMove) → FollowStock job.now.fields done rows.old →
         FollowStock job.now.fields (done ++ moves.now) rows.new }
+    ensures rows_ok { All (IsRowOf job.now.fields) rows.new }
 {
     for step in moves {
         cut_rows(job, rows, step);

@@ -1,12 +1,15 @@
-ghost use Rattle.std.specs.Prelude.{◌≡◌, ◌↔◌, ℕ, ◌≤◌, ℤ, pos, ◌<ℤ◌, [], length, None, Ok, IfErr, IfOk, IsErrOf, IsTrue};
+ghost use Rattle.std.specs.Prelude.{◌≡◌, ◌↔◌, ℕ, ◌≤◌, ℤ, pos, ◌<ℤ◌, length, None, Ok};
+ghost use Rattle.std.specs.Prelude.{IfErr, IfOk, IsErrOf, IsTrue};
 ghost use Rattle.mill_base.specs.declared.limits.TheConstants.{MAX_MOVES};
 ghost use Rattle.mill_base.specs.Covers.{IsUnder};
-ghost use Rattle.mill_job.specs.Columns.{home};
 ghost use Rattle.mill_links.specs.Links.{FollowStock};
-ghost use Rattle.mill_links.specs.Safety.{GoSafely};
+ghost use Rattle.mill_ngc.specs.Readings.{ReadsAs};
+ghost use Rattle.mill_obstacles.specs.Faces.{obstacles_of};
 ghost use Rattle.mill_verify.specs.Claims.{CutsSafely};
 ghost use Rattle.mill_verify.specs.Verdicts.{IsVerdict};
-ghost use Rattle.mill_plan.specs.Plans.{HasPlan, IsOverNodes, IsPlanAnswer, IsPlanFault, answer_of};
+ghost use Rattle.mill_plan.specs.Plans.{HasFewNodes, HasPlan, IsOverNodes, IsPlanAnswer};
+ghost use Rattle.mill_plan.specs.Plans.{IsPlanFault, answer_of, begin_of, plan_text};
+ghost use Rattle.mill_plan.specs.inner.Conditions.{AreFirstRows, BeginsWithHead, KeepsOffAll};
 ghost use Rattle.mill_plan.specs.declared.fault.PlanFault.TheVariants.{TooManyNodes};
 
 use crate::crew::PlanCrew;
@@ -17,6 +20,7 @@ use mill_base::{Move, WantOfMemory};
 use mill_dexel::Row;
 use mill_job::Job;
 use mill_ngc::write_program;
+use mill_obstacles::obstacles;
 use mill_part::SortedPart;
 use mill_verify::{Reason, Verdict};
 use std::alloc::Global;
@@ -28,6 +32,12 @@ use std::alloc::Global;
 /// finishing path (`mill_paths`), each by its link (`mill_links`), and goes home. The text is that of
 /// `mill_ngc` in the job's unit; it reads back as these moves, which the verifier accepts, with the
 /// numbers that are told.
+///
+/// Where the job has fixtures, the tool keeps off them as off the part: their upper faces stand
+/// behind its triangles (`mill_obstacles`) for drop heights, waterlines and straight feeds. They
+/// cover nothing, so the stock beside them that the cutter can't come to is left. Where a program
+/// may start from elsewhere than over home, the moves begin with two that stay at home, and the
+/// text with the two lines that lead there: up, and across.
 ///
 /// Where the job limits the depth of cut (`max_cut`), the way down to a place goes by pecks, none of
 /// them deeper, and a straight feed is made only where it cuts no column deeper than that, as the moves
@@ -69,8 +79,35 @@ pub fn plan<C: PlanCrew>(
 {
     check_nodes(job)?;
     let mut rows = rows_for_depth(alloc, job)?;
-    let moves = planned_moves(crew, alloc, job, part, &mut rows)?;
+    let moves = moves_past_all(crew, alloc, job, part, &mut rows)?;
     verified(crew, alloc, job, part, &moves, &rows)
+}
+
+/// The moves of the plan, which keep off the part and off the job's fixtures.
+fn moves_past_all<C: PlanCrew>(
+    crew: &C,
+    alloc: Global,
+    job: &Job,
+    part: &SortedPart,
+    rows: &mut [Row],
+) -> Result<Vec<Move>, PlanFault>
+    requires crew_ok { C.ready }
+    requires under { IsUnder part.now job.now.fields.top }
+    requires nodes { HasFewNodes job.now.fields }
+    requires rows_ok { AreFirstRows job.now.fields rows.old }
+    ensures stock { IfOk result (λ moves. FollowStock job.now.fields moves.items rows.new) }
+    ensures plan { IfOk
+        result
+        (λ moves. HasPlan job.now.fields (obstacles_of job.now.fields part.now) moves.items) }
+    ensures safe { IfOk result (λ moves. KeepsOffAll job.now.fields part.now moves.items) }
+    ensures fault { IfErr result (IsPlanFault job.now.fields part.now) }
+{
+    if job.fixtures().is_empty() {
+        return planned_moves(crew, alloc, job, part, rows);
+    }
+    let all = obstacles(alloc, job, part.part())?;
+    let all = SortedPart::new(alloc, all)?;
+    planned_moves(crew, alloc, job, &all, rows)
 }
 
 /// The planner's answer, from the verdict on the plan's moves.
@@ -84,9 +121,11 @@ fn verified<C: PlanCrew>(
 ) -> Result<Planned, PlanFault>
     requires crew_ok { C.ready }
     requires under { IsUnder part.now job.now.fields.top }
-    requires plan_ok { HasPlan job.now.fields part.now moves.now }
-    requires safe { GoSafely job.now.fields part.now [] (home job.now.fields) moves.now (home
-        job.now.fields) }
+    requires plan_ok { HasPlan
+        job.now.fields
+        (obstacles_of job.now.fields part.now)
+        moves.now }
+    requires safe { KeepsOffAll job.now.fields part.now moves.now }
     requires stock { FollowStock job.now.fields moves.now rows.now }
     ensures planned { IfOk
         result
@@ -99,7 +138,7 @@ fn verified<C: PlanCrew>(
             columns,
             most_left,
         } => {
-            let program = write_program(alloc, moves, job.fields.unit)?;
+            let program = text_of(alloc, job, moves)?;
             Ok(Planned {
                 program,
                 moves: count,
@@ -116,10 +155,25 @@ fn verified<C: PlanCrew>(
                 leaf: _,
             } => Err(PlanFault::Held { at, row, col }),
             // No move of a plan fails another test: each ends over the floor, cutter and holder pass the
-            // part, and the cutter passes the stock.
+            // part and the fixtures, and the cutter passes the stock.
             _ => unreachable!(),
         },
     }
+}
+
+/// The text of the plan's moves: where they begin with two at home, these are the lines that lead
+/// there.
+fn text_of(alloc: Global, job: &Job, moves: &[Move]) -> Result<Vec<u8>, WantOfMemory>
+    requires begins { BeginsWithHead job.now.fields moves.now }
+    ensures text { IfOk result (λ text. text.items ≡ plan_text job.now.fields moves.now) }
+    ensures reads { IfOk
+        result
+        (λ text. ReadsAs job.now.fields.unit (begin_of job.now.fields) moves.now text.items) }
+{
+    if !job.fields.start.is_elsewhere() {
+        return write_program(alloc, None, moves, job.fields.unit);
+    }
+    write_program(alloc, Some(job.home()), &moves[2..], job.fields.unit)
 }
 
 /// The verdict on the plan's moves: by the last test alone, on the rows that the moves have made already,
@@ -135,8 +189,7 @@ fn verdict_on<C: PlanCrew>(
     requires crew_ok { C.ready }
     requires under { IsUnder part.now job.now.fields.top }
     requires few { length moves.now ≤ MAX_MOVES }
-    requires safe { GoSafely job.now.fields part.now [] (home job.now.fields) moves.now (home
-        job.now.fields) }
+    requires safe { KeepsOffAll job.now.fields part.now moves.now }
     requires stock { FollowStock job.now.fields moves.now rows.now }
     ensures verdict { IfOk result (IsVerdict job.now.fields part.now moves.now) }
     ensures safe { (count columns : ℕ) (left : ℤ)

@@ -22,6 +22,7 @@ pub(crate) fn corners_of(name: &str) -> Result<&'static str, Fail> {
         "sample" => Ok(SAMPLE),
         "peak" => Ok("500 500 300, 500 500 300, 500 500 300"),
         "corner-peak" => Ok("0 0 300, 0 0 300, 0 0 300"),
+        "strip-peak" => Ok("60 50 140, 60 50 140, 60 50 140"),
         "middle-peak" => Ok("1000 1000 300, 1000 1000 300, 1000 1000 300"),
         "nothing" => Ok("nothing"),
         _ => Err(Fail::from("no such part")),

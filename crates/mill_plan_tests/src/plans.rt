@@ -6,7 +6,7 @@ use crate::tables::{job, same};
 use mill_base::Move;
 use mill_crew::{Alone, Threaded};
 use mill_job::Job;
-use mill_ngc::{NgcFault, Reader};
+use mill_ngc::{NgcFault, Reader, Rules};
 use mill_part::SortedPart;
 use mill_plan::{PlanFault, Planned, plan};
 use mill_tables::{halves, part_under};
@@ -124,10 +124,39 @@ fn plans_alike_with_threads_and_alone(rt: HostRuntime) -> Result<(), Fail> {
     Ok(())
 }
 
+// The strip with a fixture: beside it, where the cutter doesn't come to it, and from anywhere, so
+// that two lines lead home first; over its corner, where the cutter goes round four places at
+// each level, and leaves the nodes that are too near; the same with a point of the part, which no
+// overcut brings nearer; and in its middle, where the stock beside it is to be cut, too.
+const FIXTURES: &str =
+    "strip allowance = 300; start = 'anywhere'; keep_out = [[260, 0, 300, 100, 330]] | nothing => \
+    19 moves, 15 columns, 0 left: %\\nG17 G21 G90\\nG0 Z4.00\\nG0 X0.00 Y0.00\\n\
+    G1 X0.00 Y0.00 Z0.00\\nG1 X0.50 Y0.00 Z0.00\\n .. \\nG1 X2.00 Y1.00 Z0.00\\n\
+    G0 X2.00 Y1.00 Z4.00\\nG0 X0.00 Y0.00 Z4.00\\nM2\\n%\\n
+strip allowance = 300; levels = [250, 120]; keep_out = [[170, -20, 230, 60, 330]] | nothing => \
+    50 moves, 15 columns, 300 left: %\\nG17 G21 G90\\nG0 X2.00 Y1.00 Z4.00\\n\
+    G0 X2.00 Y1.00 Z3.00\\nG1 X2.00 Y1.00 Z2.50\\nG0 X2.00 Y1.00 Z4.00\\n\
+    G0 X1.50 Y0.95 Z4.00\\n .. \\nG0 X2.00 Y1.00 Z3.00\\nG1 X2.00 Y1.00 Z0.00\\n\
+    G0 X2.00 Y1.00 Z4.00\\nG0 X0.00 Y0.00 Z4.00\\nM2\\n%\\n
+strip allowance = 300; overcut = 20; keep_out = [[170, -20, 230, 60, 330]] | strip-peak => \
+    25 moves, 15 columns, 300 left: %\\nG17 G21 G90\\nG1 X0.00 Y0.00 Z0.00\\n\
+    G1 X0.50 Y0.00 Z0.00\\nG1 X1.00 Y0.00 Z0.00\\nG0 X1.00 Y0.00 Z4.00\\n\
+    G0 X1.00 Y0.50 Z4.00\\n .. \\nG0 X2.00 Y1.00 Z4.00\\nG0 X0.00 Y0.00 Z4.00\\nM2\\n%\\n
+strip allowance = 0; keep_out = [[90, 40, 110, 60, 300]] | nothing => \
+    Uncut { row: 1, col: 2, top: 300 }";
+
+#[test]
+fn keeps_off_fixtures(rt: HostRuntime) -> Result<(), Fail> {
+    for row in FIXTURES.lines() {
+        look(&rt, row)?;
+    }
+    Ok(())
+}
+
 /// The moves that a program's text reads as, from home.
 fn read_back(alloc: Global, job: &Job, text: &[u8]) -> Result<Vec<Move>, NgcFault> {
     let mut moves = Vec::new(alloc);
-    let mut reader = Reader::new(job.home(), job.fields.unit);
+    let mut reader = Reader::new(job.home(), job.fields.unit, Rules::NONE);
     reader.feed(text, &mut moves)?;
     reader.finish(&mut moves)?;
     Ok(moves)

@@ -43,6 +43,11 @@ const SAMPLE: &str = "cutter = 'ball'; radius = 100; floor = 0; top = 200; clear
     area = [0, 0, 100, 100]; home = [0, 0]; pitch = 50; sample = 50; allowance = 40; band = 0; \
     raster = 50; rough_raster = 100; layer = 50";
 
+/// A block from 0 to 300 over a strip of 200 by 100, fifteen columns and finishing nodes in it.
+/// A row says how much of them may be left.
+const STRIP: &str = "cutter = 'flat'; radius = 40; floor = 0; top = 300; clear = 400; \
+    area = [0, 0, 200, 100]; home = [0, 0]; pitch = 50; sample = 50; band = 0";
+
 /// Whether a text is the wanted one, or begins and ends as is wanted, with ` .. ` between the two.
 fn is_so(said: &str, wanted: &str) -> bool {
     match wanted.split_once(" .. ") {
@@ -67,6 +72,7 @@ fn keys_of(name: &str) -> Result<&'static str, Fail> {
         "level" => Ok(LEVEL),
         "post" => Ok(POST),
         "sample" => Ok(SAMPLE),
+        "strip" => Ok(STRIP),
         _ => Err(Fail::from("no such job")),
     }
 }

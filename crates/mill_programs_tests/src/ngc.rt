@@ -3,10 +3,11 @@ ghost use Rattle.mill_base.specs.Ranges.{IsInUnitRange};
 ghost use Rattle.mill_base.specs.declared.unit.Unit.TheVariants.{Hundredth};
 
 mod pieces;
+mod rules;
 
 use crate::tables::{same, with_blanks};
 use mill_base::{Kind, Move, Pt3, Unit};
-use mill_ngc::{NgcFault, Reader};
+use mill_ngc::{NgcFault, Reader, Rules};
 use mill_tables::{halves, with_bytes};
 use std::alloc::Global;
 use std::process::Abort;
@@ -36,7 +37,7 @@ fn moves_in(alloc: Global, text: &str, start: Pt3, unit: Unit) -> Result<Vec<Mov
     requires { IsInUnitRange unit start }
 {
     let mut moves = Vec::new(alloc);
-    let mut reader = Reader::new(start, unit);
+    let mut reader = Reader::new(start, unit, Rules::NONE);
     reader.feed(text.as_bytes(), &mut moves)?;
     reader.finish(&mut moves)?;
     Ok(moves)

@@ -2,7 +2,7 @@
 ghost use Rattle.mill_base.specs.Ranges.{IsInUnitRange};
 
 use mill_base::{Kind, Move, Pt3, Unit};
-use mill_ngc::{NgcFault, Reader, write_program};
+use mill_ngc::{NgcFault, Reader, Rules, write_program};
 use std::alloc::Global;
 use std::process::Abort;
 use std::test::Fail;
@@ -11,6 +11,12 @@ const HOME: Pt3 = Pt3 {
     x: 100,
     y: 100,
     z: 400,
+};
+
+// What a program is asked for that begins with the way to a place.
+const ANYWHERE: Rules = Rules {
+    from_anywhere: true,
+    needs_spindle: false,
 };
 
 const LOWEST: Pt3 = Pt3 {
@@ -40,11 +46,17 @@ fn rapid(from: Pt3, to: Pt3) -> Move {
 }
 
 // The moves that a text reads as.
-fn read_back(alloc: Global, text: &[u8], start: Pt3, unit: Unit) -> Result<Vec<Move>, NgcFault>
+fn read_back(
+    alloc: Global,
+    text: &[u8],
+    start: Pt3,
+    unit: Unit,
+    rules: Rules,
+) -> Result<Vec<Move>, NgcFault>
     requires { IsInUnitRange unit start }
 {
     let mut moves = Vec::new(alloc);
-    let mut reader = Reader::new(start, unit);
+    let mut reader = Reader::new(start, unit, rules);
     reader.feed(text, &mut moves)?;
     reader.finish(&mut moves)?;
     Ok(moves)
@@ -53,11 +65,12 @@ fn read_back(alloc: Global, text: &[u8], start: Pt3, unit: Unit) -> Result<Vec<M
 fn is_written<R: Abort>(
     rt: &R,
     alloc: Global,
+    begin: Option<Pt3>,
     moves: &[Move],
     unit: Unit,
     text: &[u8],
 ) -> Result<(), Fail> {
-    let written = write_program(alloc, moves, unit)?;
+    let written = write_program(alloc, begin, moves, unit)?;
     assert_eq!(rt; written.as_slice(), text);
     Ok(())
 }
@@ -72,7 +85,7 @@ fn is_read_back<R: Abort>(
 ) -> Result<(), Fail>
     requires { IsInUnitRange unit start }
 {
-    let again = read_back(alloc, text, start, unit)?;
+    let again = read_back(alloc, text, start, unit, Rules::NONE)?;
     assert_eq!(rt; again.as_slice(), moves);
     Ok(())
 }
@@ -88,7 +101,7 @@ fn agree<R: Abort>(
 ) -> Result<(), Fail>
     requires { IsInUnitRange unit start }
 {
-    is_written(rt, alloc, moves, unit, text)?;
+    is_written(rt, alloc, None, moves, unit, text)?;
     is_read_back(rt, alloc, text, start, unit, moves)
 }
 
@@ -125,4 +138,28 @@ fn writes_thousandths(rt: HostRuntime) -> Result<(), Fail> {
     let text: &[u8] =
         b"%\nG17 G21 G90\nG1 X-524.287 Y-0.005 Z0.000\nG0 X524.287 Y12.345 Z-2.000\nM2\n%\n";
     agree(&rt, rt.alloc(), &moves, Unit::Thousandth, text, HOME)
+}
+
+// With a place to begin at, two lines lead there; they read as two moves of length 0.
+#[test]
+fn writes_way_to_first_place(rt: HostRuntime) -> Result<(), Fail> {
+    let near = point(0, -5, 200);
+    let moves = [feed(HOME, near)];
+    let text: &[u8] = b"%\nG17 G21 G90\nG0 Z4.00\nG0 X1.00 Y1.00\nG1 X0.00 Y-0.05 Z2.00\nM2\n%\n";
+    is_written(&rt, rt.alloc(), Some(HOME), &moves, Unit::Hundredth, text)?;
+    let again = read_back(rt.alloc(), text, HOME, Unit::Hundredth, ANYWHERE)?;
+    let all = [rapid(HOME, HOME), rapid(HOME, HOME), feed(HOME, near)];
+    assert_eq!(&rt; again.as_slice(), all.as_slice());
+    Ok(())
+}
+
+// The way alone, to the ends of the range.
+#[test]
+fn writes_way_alone(rt: HostRuntime) -> Result<(), Fail> {
+    let text: &[u8] = b"%\nG17 G21 G90\nG0 Z-1310.71\nG0 X-1310.71 Y-1310.71\nM2\n%\n";
+    is_written(&rt, rt.alloc(), Some(LOWEST), &[], Unit::Hundredth, text)?;
+    let again = read_back(rt.alloc(), text, LOWEST, Unit::Hundredth, ANYWHERE)?;
+    let all = [rapid(LOWEST, LOWEST), rapid(LOWEST, LOWEST)];
+    assert_eq!(&rt; again.as_slice(), all.as_slice());
+    Ok(())
 }

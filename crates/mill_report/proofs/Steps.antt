@@ -1,32 +1,38 @@
 -- One move's tests, part by part: why it fails, and that it names a leaf that is blocked.
-use Rattle.std.specs.Prelude.{◌≡◌, ℕ, List, [], ◌∷◌, Some, refl}
-use Rattle.std.proofs.Common.{arith}
+use Rattle.std.specs.Prelude.{◌≡◌, ℕ, ◌≤◌, List, [], ◌∷◌, Some, refl}
+use Rattle.std.proofs.Common.{arith, inl, inr}
 use Rattle.mill_base.specs.Points.{point_tri, tri_at}
+use Rattle.mill_base.specs.declared.limits.TheConstants.{MAX_LAST_REACH}
 use Rattle.mill_base.specs.Ranges.{MoveInRange}
 use Rattle.mill_base.specs.Solids.{IsSolid, Solid}
 use Rattle.mill_base.specs.declared.points.Tri.{Tri}
 use Rattle.mill_base.specs.declared.motion.Move.{Move}
 use Rattle.mill_base.specs.declared.motion.Kind.{Kind}
 use Rattle.mill_base.specs.declared.motion.Kind.TheVariants.{Rapid, Feed}
-use Rattle.mill_gouge.specs.Gouges.{IsFirstGouge, PassesPart, ToolPassesPart}
+use Rattle.mill_gouge.specs.Gouges.{IsFirstGouge, PassesPart}
 use Rattle.mill_gouge.specs.declared.gouge.Gouge.{Gouge as OneGouge}
+use Rattle.mill_sweep.specs.Leaves.{reach_of}
 use Rattle.mill_sweep.specs.Moments.{FailingIsBlocked}
 use Rattle.mill_sweep.specs.Solids.{SolidFailsAt, SolidIsBlocked}
 use Rattle.mill_sweep.specs.declared.leaf.Leaf.{Leaf}
 use Rattle.mill_job.specs.declared.fields.JobFields.{JobFields}
-use Rattle.mill_job.specs.Jobs.{IsJob, part_tool_of}
-use Rattle.mill_job.specs.Solids.{holder_solid_of, part_solid_of, stock_solid_of}
-use Rattle.mill_job.proofs.SolidFacts.{holder_solid_ok, part_solid_ok, stock_solid_ok}
+use Rattle.mill_job.specs.Jobs.{IsJob}
+use Rattle.mill_job.specs.declared.fixtures.Fixture.{Fixture as Stands}
+use Rattle.mill_job.specs.Solids.{holder_solid_of, outer_of, part_solid_of, stock_solid_of}
+use Rattle.mill_job.proofs.SolidFacts.{holder_solid_ok, outer_ok, part_solid_ok, stock_solid_ok}
 use Rattle.mill_dexel.specs.Tops.{Stock, tested_point_on, top_point_on}
 use Rattle.mill_dexel.specs.declared.fail.RowTest.{RowTest}
 use Rattle.mill_dexel.specs.declared.fail.RowTest.TheVariants as test
-use Rattle.mill_verify.specs.Blocks.{IsPartFail}
-use Rattle.mill_verify.specs.Reasons.{cut_reason, part_reason, stock_reason}
+use Rattle.mill_verify.specs.Clashes.{IsClash, IsClear, IsFixtureClash, IsHolderFixtureClash}
+use Rattle.mill_obstacles.specs.Faces.{first_half, second_half}
+use Rattle.mill_verify.specs.Fixtures.{BlocksSolid, FailsFixture, fixture_at}
+use Rattle.mill_verify.specs.Reasons.{clash_reason, cut_reason, stock_reason}
 use Rattle.mill_verify.specs.Tests.{IsGoodOn, IsOverFloor}
-use Rattle.mill_verify.specs.declared.block.PartFail.{PartFail}
-use Rattle.mill_verify.specs.declared.block.PartFail.TheVariants as fail
-use Rattle.mill_verify.specs.Verdicts.{BlocksHolder, BlocksLeaf, FailsHolderStockOn, FailsStockOn}
-use Rattle.mill_verify.specs.declared.verdict.Reason.TheVariants.{Gouge, Holder}
+use Rattle.mill_verify.specs.declared.clash.Clash.{Clash}
+use Rattle.mill_verify.specs.declared.clash.Clash.TheVariants as clash
+use Rattle.mill_verify.specs.declared.fixture.FixtureHit.{FixtureHit}
+use Rattle.mill_verify.specs.Verdicts.{BlocksAtFixture, BlocksHolder, BlocksHolderAtFixture, BlocksLeaf, FailsHolderStockOn, FailsStockOn}
+use Rattle.mill_verify.specs.declared.verdict.Reason.TheVariants.{Gouge, Holder, Fixture, HolderFixture}
 use Rattle.mill_verify.proofs.Mounted.{of_some}
 use Rattle.mill_report.specs.inner.Steps.{FailsMove, FailsPart}
 use Rattle.mill_report.specs.inner.Stops.{IsCutStop, IsHolderStop, PassesStock, StopsBy}
@@ -73,22 +79,90 @@ module _ (failing_is_blocked : FailingIsBlocked) (job : JobFields) (m : Move) (j
     names = held_named holder gouge.leaf (tri_at part gouge.tri) mounted h.fails h.blocked;
   }
 
-  pub part_fails : (part : List Tri) (number : ℕ) (found : PartFail) → IsPartFail job part m found → FailsPart job part m number (part_reason number found)
-  part_fails part number (fail.Cutter gouge) h = gouges part number gouge h
-  part_fails part number (fail.Holder gouge) h = holder_gouges part number h.holder gouge h.clears h.mounted h.first
+  -- ---- the tests against the fixtures
+
+  -- whichever triangle of a fixture the test fails at
+  last_of : (solid : Solid) → IsSolid solid → (box : Stands) (leaf : Leaf) → FailsFixture solid m box leaf → reach_of m leaf.d leaf.k ≤ MAX_LAST_REACH
+  last_of solid ok box leaf fails = elim fails [
+    | inl first ↦ (failing_is_blocked solid m (first_half box) leaf ok range first).0
+    | inr second ↦ (failing_is_blocked solid m (second_half box) leaf ok range second.1).0
+  ]
+
+  fixture_named : (b : ℕ) (leaf : Leaf) → FailsFixture (outer_of job) m (fixture_at job.keep_out b) leaf → BlocksSolid (outer_of job) m (fixture_at job.keep_out b) leaf → BlocksAtFixture job (m ∷ []) 0 b leaf
+  fixture_named b leaf fails blocked =
+      let last = last_of (outer_of job) (outer_ok job job_ok) (fixture_at job.keep_out b) leaf fails in
+      elim blocked [ inl first ↦ inl (record { last = last; blocks = first }) | inr second ↦ inr (record { last = last; blocks = second }) ]
+
+  held_fixture_named : (holder : Solid) (b : ℕ) (leaf : Leaf) → holder_solid_of job ≡ Some holder → FailsFixture holder m (fixture_at job.keep_out b) leaf
+      → BlocksSolid holder m (fixture_at job.keep_out b) leaf → BlocksHolderAtFixture job (m ∷ []) 0 b leaf
+  held_fixture_named holder b leaf mounted fails blocked =
+      let last = last_of holder (of_some IsSolid (holder_solid_of job) holder mounted (holder_solid_ok job job_ok)) (fixture_at job.keep_out b) leaf fails in
+      elim blocked [
+        | inl first ↦ inl (record { holder = holder; mounted = mounted; blocks = record { last = last; blocks = first } })
+        | inr second ↦ inr (record { holder = holder; mounted = mounted; blocks = record { last = last; blocks = second } })
+      ]
+
+  hits : (part : List Tri) (number : ℕ) (hit : FixtureHit) → IsFixtureClash job part m hit → FailsPart job part m number (Fixture number hit.fixture hit.leaf)
+  hits part number hit h stock over = record {
+    at = refl;
+    fails = record {
+      of_move = tt;
+      rejects = record {
+        there = omega arith;
+        before = λ e less. absurd (omega (less, arith));
+        floor = over;
+        clears = h.passes_part.cutter;
+        holder = h.passes_part.holder;
+        fixture = h.first.there;
+        first = h.first.first;
+        fails = h.first.fails;
+      };
+    };
+    names = fixture_named hit.fixture hit.leaf h.first.fails h.first.blocked;
+  }
+
+  holder_hits : (part : List Tri) (number : ℕ) (hit : FixtureHit) → IsHolderFixtureClash job part m hit → FailsPart job part m number (HolderFixture number hit.fixture hit.leaf)
+  holder_hits part number hit h stock over = record {
+    at = refl;
+    fails = record {
+      of_move = tt;
+      rejects = record {
+        there = omega arith;
+        before = λ e less. absurd (omega (less, arith));
+        floor = over;
+        clears = h.passes_part.cutter;
+        holder_clears = h.passes_part.holder;
+        fixtures = h.clears;
+        holder = h.holder;
+        mounted = h.mounted;
+        fixture = h.first.there;
+        first = h.first.first;
+        fails = h.first.fails;
+      };
+    };
+    names = held_fixture_named h.holder hit.fixture hit.leaf h.mounted h.first.fails h.first.blocked;
+  }
+
+  pub part_fails : (part : List Tri) (number : ℕ) (found : Clash) → IsClash job part m found → FailsPart job part m number (clash_reason number found)
+  part_fails part number (clash.Cutter gouge) h = gouges part number gouge h
+  part_fails part number (clash.Holder gouge) h = holder_gouges part number h.holder gouge h.clears h.mounted h.first
+  part_fails part number (clash.Fixture hit) h = hits part number hit h
+  part_fails part number (clash.HolderFixture hit) h = holder_hits part number hit h
 
   -- ---- the tests against the stock, which come last
-  module _ (part : List Tri) (stock : Stock) (number : ℕ) (over : IsOverFloor job (m ∷ []) 0) (tool : ToolPassesPart (part_tool_of job) m part) where
+  module _ (part : List Tri) (stock : Stock) (number : ℕ) (over : IsOverFloor job (m ∷ []) 0) (clear : IsClear job part m) where
     pub passes_all : PassesStock job stock m → IsGoodOn job part stock (m ∷ []) 0
-    passes_all passes = record { floor = over; clears = tool.cutter; holder = tool.holder; stock = passes.cut; holder_stock = passes.holder }
+    passes_all passes = record { floor = over; clears = clear.passes_part.cutter; holder = clear.passes_part.holder; fixtures = clear.passes_fixtures.cutter; holder_fixtures = clear.passes_fixtures.holder; stock = passes.cut; holder_stock = passes.holder }
 
     cut_fails : (stop : Stop) → IsCutStop job stock m stop → FailsStockOn job part stock (m ∷ []) m.kind 0 stop.row stop.col stop.leaf
     cut_fails stop h = record {
       there = omega arith;
       before = λ e less. absurd (omega (less, arith));
       floor = over;
-      clears = tool.cutter;
-      holder = tool.holder;
+      clears = clear.passes_part.cutter;
+      holder = clear.passes_part.holder;
+      fixtures = clear.passes_fixtures.cutter;
+      holder_fixtures = clear.passes_fixtures.holder;
       is = refl;
       tested = h.tested;
       column = h.at.column;
@@ -101,8 +175,10 @@ module _ (failing_is_blocked : FailingIsBlocked) (job : JobFields) (m : Move) (j
       there = omega arith;
       before = λ e less. absurd (omega (less, arith));
       floor = over;
-      clears = tool.cutter;
-      holder_clears = tool.holder;
+      clears = clear.passes_part.cutter;
+      holder_clears = clear.passes_part.holder;
+      fixtures = clear.passes_fixtures.cutter;
+      holder_fixtures = clear.passes_fixtures.holder;
       stock = h.cut;
       holder = h.holder;
       mounted = h.mounted;

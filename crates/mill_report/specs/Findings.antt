@@ -8,7 +8,7 @@ use Rattle.mill_dexel.specs.Turns.{move_at}
 use Rattle.mill_verify.specs.Tests.{IsGood, stock_met}
 use Rattle.mill_verify.specs.Verdicts.{IsOfMove, IsRejectionOn}
 use Rattle.mill_verify.specs.declared.verdict.Reason.{Reason}
-use Rattle.mill_verify.specs.declared.verdict.Reason.TheVariants.{Floor, Gouge, Holder, Rapid, Cut, HolderStock, Left}
+use Rattle.mill_verify.specs.declared.verdict.Reason.TheVariants.{Floor, Gouge, Holder, Fixture, HolderFixture, Rapid, Cut, HolderStock, Left}
 use Rattle.mill_report.specs.Listings.{IsListing}
 
 -- the number of the move that a reason is of; a column that is left too high is of no move
@@ -16,6 +16,8 @@ abbrev pub move_of : Reason → ℕ
 move_of (Floor k) = k
 move_of (Gouge k t leaf) = k
 move_of (Holder k t leaf) = k
+move_of (Fixture k b leaf) = k
+move_of (HolderFixture k b leaf) = k
 move_of (Rapid k j i leaf) = k
 move_of (Cut k j i leaf) = k
 move_of (HolderStock k j i leaf) = k
@@ -26,6 +28,8 @@ abbrev pub numbered : ℕ → Reason → Reason
 numbered n (Floor k) = Floor n
 numbered n (Gouge k t leaf) = Gouge n t leaf
 numbered n (Holder k t leaf) = Holder n t leaf
+numbered n (Fixture k b leaf) = Fixture n b leaf
+numbered n (HolderFixture k b leaf) = HolderFixture n b leaf
 numbered n (Rapid k j i leaf) = Rapid n j i leaf
 numbered n (Cut k j i leaf) = Cut n j i leaf
 numbered n (HolderStock k j i leaf) = HolderStock n j i leaf

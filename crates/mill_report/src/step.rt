@@ -10,7 +10,7 @@ use mill_base::Move;
 use mill_job::Job;
 use mill_part::SortedPart;
 use mill_sweep::failing_is_blocked;
-use mill_verify::{Reason, is_over_floor, part_fail, part_reason, stock_reason};
+use mill_verify::{Reason, clash_reason, first_clash, is_over_floor, stock_reason};
 
 /// The first test that move `number` fails, where the stock that it meets stops it so, or doesn't; none where it
 /// passes all.
@@ -32,8 +32,8 @@ pub fn finding_of(
     }
     // A law without code: a leaf that fails, of the cutter or of the holder, is one of the last of its move.
     failing_is_blocked();
-    if let Some(fail) = part_fail(job, part, step) {
-        return Some(part_reason(number, fail));
+    if let Some(clash) = first_clash(job, part, step) {
+        return Some(clash_reason(number, clash));
     }
     let stop = told?;
     Some(stock_reason(stop.test, step.kind, number, stop.row, stop.col, stop.leaf))

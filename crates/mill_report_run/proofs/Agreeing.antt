@@ -16,7 +16,7 @@ use Rattle.mill_report.specs.declared.left.TheConstants.{MAX_LEFT}
 use Rattle.mill_report_run.specs.Reports.{Agree, BeginsWith}
 use Rattle.mill_verify.specs.Verdicts.{IsOfMove, IsVerdict, OneVerdict}
 use Rattle.mill_verify.specs.declared.verdict.Reason.{Reason}
-use Rattle.mill_verify.specs.declared.verdict.Reason.TheVariants.{Floor, Gouge, Holder, Rapid, Cut, HolderStock, Left}
+use Rattle.mill_verify.specs.declared.verdict.Reason.TheVariants.{Floor, Gouge, Holder, Fixture, HolderFixture, Rapid, Cut, HolderStock, Left}
 use Rattle.mill_verify.specs.declared.verdict.Verdict.TheVariants.{Reject}
 
 same_reason : (r s : Reason) → Reject r ≡ Reject s → r ≡ s
@@ -79,6 +79,8 @@ module _ (one : OneVerdict) (first : FirstIsVerdict) (is_first : VerdictIsFirst)
   agrees (Floor k) found shown total h l v = is_first job part moves (Floor k) found h tt v
   agrees (Gouge k t leaf) found shown total h l v = is_first job part moves (Gouge k t leaf) found h tt v
   agrees (Holder k t leaf) found shown total h l v = is_first job part moves (Holder k t leaf) found h tt v
+  agrees (Fixture k b leaf) found shown total h l v = is_first job part moves (Fixture k b leaf) found h tt v
+  agrees (HolderFixture k b leaf) found shown total h l v = is_first job part moves (HolderFixture k b leaf) found h tt v
   agrees (Rapid k j i leaf) found shown total h l v = is_first job part moves (Rapid k j i leaf) found h tt v
   agrees (Cut k j i leaf) found shown total h l v = is_first job part moves (Cut k j i leaf) found h tt v
   agrees (HolderStock k j i leaf) found shown total h l v = is_first job part moves (HolderStock k j i leaf) found h tt v

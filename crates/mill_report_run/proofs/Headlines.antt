@@ -25,9 +25,10 @@ use Rattle.mill_answer.proofs.Counts.{no, on}
 use Rattle.mill_answer.specs.Judgments.{judged, unfit}
 use Rattle.mill_answer.specs.Calls.{Call, HoldsReads, NoFault}
 use Rattle.mill_answer.specs.Verify.{AcceptsSafely, AreTold, Files, IsNamed, Judges, Reads, Texts as ToldTexts, texts_of, verdict_status}
+use Rattle.mill_verify.specs.Starts.{StartIsSafe}
 use Rattle.mill_verify.specs.Verdicts.{NamesLeaf, OneVerdict}
 use Rattle.mill_verify.specs.declared.verdict.Reason.{Reason}
-use Rattle.mill_verify.specs.declared.verdict.Reason.TheVariants.{Floor, Gouge, Holder, Rapid as RapidCut, Cut, HolderStock, Left}
+use Rattle.mill_verify.specs.declared.verdict.Reason.TheVariants.{Floor, Gouge, Holder, Fixture, HolderFixture, Rapid as RapidCut, Cut, HolderStock, Left}
 use Rattle.mill_verify.specs.declared.verdict.Verdict.{Verdict}
 use Rattle.mill_verify.specs.declared.verdict.Verdict.TheVariants.{Accept, Reject}
 use Rattle.serde_json.specs.Data.{Data}
@@ -74,17 +75,18 @@ is_reported words call asked has taken n4 n5 n6 n7 =
 -- ---- its verdict
 
 module _ (call : Call) (files : Files) (r : Reported) (is : (contents : List ℕ → Option (List ℕ)) → HoldsReads contents call → Reports (texts_of contents files) r) (job_ok : IsJob r.job) (moves_ok : AreMoves r.job r.moves) where
-  accepts_by : (v : Verdict) (document : Data) → IsReport r.texts r.job r.part r.moves v document → 0 ≡ verdict_status v → AcceptsSafely call files
-  accepts_by (Accept count columns left) document d e = record {
+  accepts_by : StartIsSafe → (v : Verdict) (document : Data) → IsReport r.texts r.job r.part r.moves v document → 0 ≡ verdict_status v → AcceptsSafely call files
+  accepts_by law (Accept count columns left) document d e = record {
     job = r.job;
     part = r.part;
     moves = r.moves;
     job_ok = job_ok;
     moves_ok = moves_ok;
     all_read = λ contents held. all_read (texts_of contents files) r.texts r.job r.part r.moves (is contents held).agree d.all_read;
+    start = law r.job r.part moves_ok.follow.from job_ok d.all_read.under moves_ok.follow.over;
     safe = d.safe;
   }
-  accepts_by (Reject reason) document d e = absurd (no 0 3 (omega arith) e)
+  accepts_by law (Reject reason) document d e = absurd (no 0 3 (omega arith) e)
 
   none_by : (v : Verdict) (document : Data) → IsReport r.texts r.job r.part r.moves v document → 0 ≡ verdict_status v
       → IsWritten (text_of document) call.sink call.sink_after → PrintsAcceptance call files
@@ -141,6 +143,8 @@ module _ (job : JobFields) (part : List Tri) (moves : List Move) where
   is_named (Reject (Floor k)) found left too_high agree named = tt
   is_named (Reject (Gouge k t leaf)) found left too_high agree named = first_named (Gouge k t leaf) agree.0 found agree.1 named
   is_named (Reject (Holder k t leaf)) found left too_high agree named = first_named (Holder k t leaf) agree.0 found agree.1 named
+  is_named (Reject (Fixture k b leaf)) found left too_high agree named = first_named (Fixture k b leaf) agree.0 found agree.1 named
+  is_named (Reject (HolderFixture k b leaf)) found left too_high agree named = first_named (HolderFixture k b leaf) agree.0 found agree.1 named
   is_named (Reject (RapidCut k j i leaf)) found left too_high agree named = first_named (RapidCut k j i leaf) agree.0 found agree.1 named
   is_named (Reject (Cut k j i leaf)) found left too_high agree named = first_named (Cut k j i leaf) agree.0 found agree.1 named
   is_named (Reject (HolderStock k j i leaf)) found left too_high agree named = first_named (HolderStock k j i leaf) agree.0 found agree.1 named
@@ -195,13 +199,13 @@ completes_of words call has = λ asked contents job part moves taken holds told 
       | inr e ↦ inr (inr e)
     ]
 
-pub headline_of : OneVerdict → (words : List (List ℕ)) (call : Call) → HasOutcome words call → Headline words call
-headline_of one words call has = record {
+pub headline_of : OneVerdict → StartIsSafe → (words : List (List ℕ)) (call : Call) → HasOutcome words call → Headline words call
+headline_of one law words call has = record {
   accepts = λ asked taken e.
       let t = is_reported words call asked has taken
       (apart _ 0 4 e (no 0 4 (omega arith))) (apart _ 0 5 e (no 0 5 (omega arith))) (apart _ 0 6 e (no 0 6 (omega arith))) (apart _ 0 7 e (no 0 7 (omega arith))) in
       let r = t.is call.store.contents has.held in
-      accepts_by call asked.files t.made t.is r.job_ok r.moves_ok r.is.verdict r.is.told r.is.report (sym e ∙ t.status_is ∙ r.is.status_is);
+      accepts_by call asked.files t.made t.is r.job_ok r.moves_ok law r.is.verdict r.is.told r.is.report (sym e ∙ t.status_is ∙ r.is.status_is);
   clean = λ asked taken e.
       let t = is_reported words call asked has taken
       (apart _ 0 4 e (no 0 4 (omega arith))) (apart _ 0 5 e (no 0 5 (omega arith))) (apart _ 0 6 e (no 0 6 (omega arith))) (apart _ 0 7 e (no 0 7 (omega arith))) in

@@ -7,6 +7,7 @@ use Rattle.mill_base.specs.declared.points.Tri.{Tri}
 use Rattle.mill_document.specs.Details.{failing_data}
 use Rattle.mill_job.specs.Columns.{home}
 use Rattle.mill_job.specs.declared.fields.JobFields.{JobFields}
+use Rattle.mill_load.specs.Programs.{rules_of}
 use Rattle.mill_report_run.specs.Reports.{AreFailing, AreItems, IsLift, Texts}
 use Rattle.mill_ngc.specs.Lines.{ArePlaces}
 use Rattle.mill_ngc.specs.declared.place.LineSpan.{LineSpan}
@@ -27,7 +28,7 @@ some_found (reason ∷ found) empty is fails none = none_is_not_one reason found
 module _ (texts : Texts) (job : JobFields) (part : List Tri) (moves : List Move) where
   -- the items that were made of what was read
   pub are_items : (found : List Reason) (text : List ℕ) (at places : List LineSpan) (given lifts : List (Option ℤ)) (items : List Data) → text ≡ texts.program → at ≡ places → given ≡ lifts
-      → ArePlaces (home job) job.unit texts.program places → AllZip (IsLift job part moves) found lifts → items ≡ failing_data job part moves text at found given → AreItems texts job part moves found items
+      → ArePlaces (home job) job.unit (rules_of job) texts.program places → AllZip (IsLift job part moves) found lifts → items ≡ failing_data job part moves text at found given → AreItems texts job part moves found items
   are_items found text at places given lifts items same_text same_places same_lifts places_are lifts_are is = record {
     places = places;
     places_are = places_are;

@@ -21,7 +21,7 @@ use Rattle.mill_report_run.specs.inner.Lifts.{lifted_move}
 use Rattle.mill_sweep.specs.Leaves.{length_z}
 use Rattle.mill_sweep.specs.Reach.{low_end_of}
 use Rattle.mill_verify.specs.declared.verdict.Reason.{Reason}
-use Rattle.mill_verify.specs.declared.verdict.Reason.TheVariants.{Floor, Gouge, Holder, Rapid, Cut, HolderStock, Left}
+use Rattle.mill_verify.specs.declared.verdict.Reason.TheVariants.{Floor, Gouge, Holder, Fixture, HolderFixture, Rapid, Cut, HolderStock, Left}
 
 -- ---- whose lift it is
 
@@ -36,6 +36,8 @@ pub number_is : (reason : Reason) (number : ℕ) → lifted_move reason ≡ Some
 number_is (Floor k) number e = absurd (none_is_not_some number e)
 number_is (Gouge k t leaf) number e = some_same k number e
 number_is (Holder k t leaf) number e = some_same k number e
+number_is (Fixture k b leaf) number e = absurd (none_is_not_some number e)
+number_is (HolderFixture k b leaf) number e = absurd (none_is_not_some number e)
 number_is (Rapid k j i leaf) number e = absurd (none_is_not_some number e)
 number_is (Cut k j i leaf) number e = absurd (none_is_not_some number e)
 number_is (HolderStock k j i leaf) number e = absurd (none_is_not_some number e)
@@ -50,6 +52,8 @@ module _ (job : JobFields) (part : List Tri) (moves : List Move) where
   lift_is (Floor k) number lift e is = absurd (none_is_not_some number e)
   lift_is (Gouge k t leaf) number lift e is = lift_at k number lift e is
   lift_is (Holder k t leaf) number lift e is = lift_at k number lift e is
+  lift_is (Fixture k b leaf) number lift e is = absurd (none_is_not_some number e)
+  lift_is (HolderFixture k b leaf) number lift e is = absurd (none_is_not_some number e)
   lift_is (Rapid k j i leaf) number lift e is = absurd (none_is_not_some number e)
   lift_is (Cut k j i leaf) number lift e is = absurd (none_is_not_some number e)
   lift_is (HolderStock k j i leaf) number lift e is = absurd (none_is_not_some number e)

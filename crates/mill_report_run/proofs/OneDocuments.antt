@@ -8,7 +8,7 @@ use Rattle.mill_base.specs.declared.motion.Move.{Move}
 use Rattle.mill_base.specs.declared.points.Pt3.{Pt3}
 use Rattle.mill_base.specs.declared.points.Tri.{Tri}
 use Rattle.mill_base.specs.declared.unit.Unit.{Unit as LengthUnit}
-use Rattle.mill_block.specs.Lines.{after_line, made_list}
+use Rattle.mill_block.specs.Lines.{after_line}
 use Rattle.mill_block.specs.declared.fault.NgcFault.{NgcFault}
 use Rattle.mill_block.specs.declared.progress.Progress.{Progress}
 use Rattle.mill_document.specs.Details.{failing_data, left_column}
@@ -20,9 +20,11 @@ use Rattle.mill_job.specs.Jobs.{part_tool_of}
 use Rattle.mill_job.specs.declared.fields.JobFields.{JobFields}
 use Rattle.mill_gouge.specs.Laws.{OneLift}
 use Rattle.mill_answer.specs.Faults.{fault_status}
+use Rattle.mill_load.specs.Programs.{rules_of}
 use Rattle.mill_load.specs.declared.load.LoadFault.TheVariants.{Memory, ReadFault, Unfit}
 use Rattle.mill_load.specs.declared.load.Unfit.{Unfit as UnfitFault}
 use Rattle.mill_ngc.proofs.JoinLemmas.{pieces_join}
+use Rattle.mill_block.specs.declared.rules.Rules.{Rules}
 use Rattle.mill_ngc.specs.Pieces.{Reading, Going, Failed, after_lines, after_result, after_whole, fed, line_so_far, put_before, reading_at}
 use Rattle.mill_ngc.specs.Programs.{lines_of}
 use Rattle.mill_report.specs.Laws.{OneLeft, OneList}
@@ -39,15 +41,15 @@ use Rattle.mill_ngc.specs.Lines.{ArePlaces, IsPlace, first_lines, line_at, moves
 use Rattle.mill_ngc.specs.declared.place.LineSpan.{LineSpan}
 use Rattle.mill_verify.specs.Verdicts.{OneVerdict}
 use Rattle.mill_verify.specs.declared.verdict.Reason.{Reason}
-use Rattle.mill_verify.specs.declared.verdict.Reason.TheVariants.{Floor, Gouge, Holder, Rapid as RapidCut, Cut, HolderStock, Left}
+use Rattle.mill_verify.specs.declared.verdict.Reason.TheVariants.{Floor, Gouge, Holder, Fixture, HolderFixture, Rapid as RapidCut, Cut, HolderStock, Left}
 use Rattle.mill_verify.specs.declared.verdict.Verdict.{Verdict}
 use Rattle.serde_json.specs.Data.{Data}
 
 -- ---- the place of a move
 
 -- reading on takes no move away
-grows_result : (moves : List Move) (r : Result (Progress × Option Move) NgcFault) → length moves ≤ length (after_result moves r).1
-grows_result moves (Ok s) = omega (arith, length-append moves (made_list s.1))
+grows_result : (moves : List Move) (r : Result (Progress × List Move) NgcFault) → length moves ≤ length (after_result moves r).1
+grows_result moves (Ok s) = omega (arith, length-append moves s.1)
 grows_result moves (Err f) = omega arith
 
 grows_if : (moves : List Move) (b : Bool) (x y : Reading × List Move) → length moves ≤ length x.1 → length moves ≤ length y.1 → length moves ≤ length (if b then x else y).1
@@ -84,25 +86,25 @@ front_splits (suc a) (suc b) (line ∷ lines) le =
     (r.0, ap (λ t. line ++ 10 ∷ t) r.1 ∙ sym (append_assoc line (10 ∷ with_ends (take a lines)) r.0))
 
 -- and make no fewer moves
-no_fewer : (start : Pt3) (unit : LengthUnit) (text : List ℕ) (a b : ℕ) → a ≤ b → length (moves_to start unit text a) ≤ length (moves_to start unit text b)
-no_fewer start unit text a b le =
+no_fewer : (start : Pt3) (unit : LengthUnit) (asked : Rules) (text : List ℕ) (a b : ℕ) → a ≤ b → length (moves_to start unit asked text a) ≤ length (moves_to start unit asked text b)
+no_fewer start unit asked text a b le =
     let splits = front_splits a b (lines_of text) le in
-    let first = fed (reading_at start unit, []) (first_lines a text) in
-    let whole : fed first splits.0 ≡ fed (reading_at start unit, []) (first_lines b text) =
-    pieces_join (reading_at start unit, []) (first_lines a text) splits.0 ∙ ap (fed (reading_at start unit, [])) (sym splits.1) in
+    let first = fed (reading_at start unit asked, []) (first_lines a text) in
+    let whole : fed first splits.0 ≡ fed (reading_at start unit asked, []) (first_lines b text) =
+    pieces_join (reading_at start unit asked, []) (first_lines a text) splits.0 ∙ ap (fed (reading_at start unit asked, [])) (sym splits.1) in
     subst (λ (s : Reading × List Move). length first.1 ≤ length s.1) whole (grows_fed first splits.0)
 
-not_before : (start : Pt3) (unit : LengthUnit) (text : List ℕ) (k : ℕ) (p q : LineSpan) → IsPlace start unit text k p → IsPlace start unit text k q → p.line < q.line → ⊥
-not_before start unit text k p q s t lt =
-    let more : length (moves_to start unit text p.line) ≤ length (moves_to start unit text (q.line - 1)) = no_fewer start unit text p.line (q.line - 1) (omega (arith, lt)) in
+not_before : (start : Pt3) (unit : LengthUnit) (asked : Rules) (text : List ℕ) (k : ℕ) (p q : LineSpan) → IsPlace start unit asked text k p → IsPlace start unit asked text k q → p.line < q.line → ⊥
+not_before start unit asked text k p q s t lt =
+    let more : length (moves_to start unit asked text p.line) ≤ length (moves_to start unit asked text (q.line - 1)) = no_fewer start unit asked text p.line (q.line - 1) (omega (arith, lt)) in
     omega (arith, more, s.within, t.before)
 
-same_line : (start : Pt3) (unit : LengthUnit) (text : List ℕ) (k : ℕ) (p q : LineSpan) → IsPlace start unit text k p → IsPlace start unit text k q → p.line ≡ q.line
-same_line start unit text k p q s t = by (cases_lt p.line q.line) (cases_lt q.line p.line)
+same_line : (start : Pt3) (unit : LengthUnit) (asked : Rules) (text : List ℕ) (k : ℕ) (p q : LineSpan) → IsPlace start unit asked text k p → IsPlace start unit asked text k q → p.line ≡ q.line
+same_line start unit asked text k p q s t = by (cases_lt p.line q.line) (cases_lt q.line p.line)
   where
     by : (p.line < q.line) ⊎ (q.line ≤ p.line) → (q.line < p.line) ⊎ (p.line ≤ q.line) → p.line ≡ q.line
-    by (inl lt) other = absurd (not_before start unit text k p q s t lt)
-    by (inr most) (inl lt) = absurd (not_before start unit text k q p t s lt)
+    by (inl lt) other = absurd (not_before start unit asked text k p q s t lt)
+    by (inr most) (inl lt) = absurd (not_before start unit asked text k q p t s lt)
     by (inr most) (inr least) = omega (arith, most, least)
 
 same_place : (p q : LineSpan) → p.line ≡ q.line → p.start ≡ q.start → p.end ≡ q.end → p ≡ q
@@ -118,20 +120,20 @@ length-slice text a b order within =
     length-take-le (b - a) (drop a text) rest
 
 -- a move has one place
-one_place : (start : Pt3) (unit : LengthUnit) (text : List ℕ) (k : ℕ) (p q : LineSpan) → IsPlace start unit text k p → IsPlace start unit text k q → p ≡ q
-one_place start unit text k p q s t =
-    let line : p.line ≡ q.line = same_line start unit text k p q s t in
+one_place : (start : Pt3) (unit : LengthUnit) (asked : Rules) (text : List ℕ) (k : ℕ) (p q : LineSpan) → IsPlace start unit asked text k p → IsPlace start unit asked text k q → p ≡ q
+one_place start unit asked text k p q s t =
+    let line : p.line ≡ q.line = same_line start unit asked text k p q s t in
     let begins : p.start ≡ q.start = s.begins ∙ ap (λ n. length (first_lines (n - 1) text)) line ∙ sym t.begins in
     let bytes : slice_range text p.start p.end ≡ slice_range text q.start q.end = s.bytes ∙ ap (line_at text) line ∙ sym t.bytes in
     let size : p.end - p.start ≡ q.end - q.start = sym (length-slice text p.start p.end s.order s.inside) ∙ ap length bytes ∙ length-slice text q.start q.end t.order t.inside in
     same_place p q line begins (omega (arith, begins, size, s.order, t.order))
 
 -- a text's moves have one list of places
-one_places : (start : Pt3) (unit : LengthUnit) (text : List ℕ) (a b : List LineSpan) → ArePlaces start unit text a → ArePlaces start unit text b → a ≡ b
-one_places start unit text a b s t =
+one_places : (start : Pt3) (unit : LengthUnit) (asked : Rules) (text : List ℕ) (a b : List LineSpan) → ArePlaces start unit asked text a → ArePlaces start unit asked text b → a ≡ b
+one_places start unit asked text a b s t =
     let other : LineSpan = record { line = 0; start = 0; «end» = 0 } in
     let count : length a ≡ length b = s.count ∙ sym t.count in
-    ext_get_or other a b count (λ i lt. one_place start unit text i (get_or a i other) (get_or b i other) (s.each i other lt) (t.each i other (omega (arith, count, lt))))
+    ext_get_or other a b count (λ i lt. one_place start unit asked text i (get_or a i other) (get_or b i other) (s.each i other lt) (t.each i other (omega (arith, count, lt))))
 
 -- ---- the lifts
 
@@ -144,6 +146,8 @@ one_lift_of one job part m (Some a) (Some b) (room, (n, e, least)) (again, (k, f
 one_lift_for : OneLift → (job : JobFields) (part : List Tri) (moves : List Move) (reason : Reason) (a b : Option ℤ) → IsLift job part moves reason a → IsLift job part moves reason b → a ≡ b
 one_lift_for one job part moves (Gouge k t leaf) a b g h = one_lift_of one job part (move_at moves k) a b g h
 one_lift_for one job part moves (Holder k t leaf) a b g h = one_lift_of one job part (move_at moves k) a b g h
+one_lift_for one job part moves (Fixture k box leaf) a b g h = g ∙ sym h
+one_lift_for one job part moves (HolderFixture k box leaf) a b g h = g ∙ sym h
 one_lift_for one job part moves (Floor k) a b g h = g ∙ sym h
 one_lift_for one job part moves (RapidCut k j i leaf) a b g h = g ∙ sym h
 one_lift_for one job part moves (Cut k j i leaf) a b g h = g ∙ sym h
@@ -167,7 +171,7 @@ one_failing : OneLift → (texts : Texts) (job : JobFields) (part : List Tri) (m
 one_failing one texts job part moves [] a b s t = s ∙ sym t
 one_failing one texts job part moves (reason ∷ found) a b s t =
     s.items_are
-    ∙ ap (λ places. failing_data job part moves texts.program places (reason ∷ found) s.lifts) (one_places (home job) job.unit texts.program s.places t.places s.places_are t.places_are)
+    ∙ ap (λ places. failing_data job part moves texts.program places (reason ∷ found) s.lifts) (one_places (home job) job.unit (rules_of job) texts.program s.places t.places s.places_are t.places_are)
     ∙ ap (λ lifts. failing_data job part moves texts.program t.places (reason ∷ found) lifts) (one_lifts one job part moves (reason ∷ found) s.lifts t.lifts s.lifts_are t.lifts_are)
     ∙ sym t.items_are
 

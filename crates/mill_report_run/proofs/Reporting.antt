@@ -21,7 +21,7 @@ use Rattle.mill_report_run.specs.inner.Lists.{AreLists, ArePlain}
 use Rattle.mill_answer.specs.Verify.{IsSafe, NamesVerdictMove, verdict_line, verdict_status}
 use Rattle.mill_verify.specs.Verdicts.{IsVerdict, NamesLeaf, OneVerdict}
 use Rattle.mill_verify.specs.declared.verdict.Reason.{Reason}
-use Rattle.mill_verify.specs.declared.verdict.Reason.TheVariants.{Floor, Gouge, Holder, Rapid, Cut, HolderStock, Left}
+use Rattle.mill_verify.specs.declared.verdict.Reason.TheVariants.{Floor, Gouge, Holder, Fixture, HolderFixture, Rapid, Cut, HolderStock, Left}
 use Rattle.mill_verify.specs.declared.verdict.Verdict.{Verdict}
 use Rattle.mill_verify.specs.declared.verdict.Verdict.TheVariants.{Accept, Reject}
 use Rattle.serde_json.specs.Data.{Data}
@@ -33,6 +33,8 @@ move_there job part moves (Accept count columns left) v = tt
 move_there job part moves (Reject (Floor k)) v = v.there
 move_there job part moves (Reject (Gouge k t leaf)) v = tt
 move_there job part moves (Reject (Holder k t leaf)) v = tt
+move_there job part moves (Reject (Fixture k b leaf)) v = tt
+move_there job part moves (Reject (HolderFixture k b leaf)) v = tt
 move_there job part moves (Reject (Rapid k j i leaf)) v = tt
 move_there job part moves (Reject (Cut k j i leaf)) v = tt
 move_there job part moves (Reject (HolderStock k j i leaf)) v = tt

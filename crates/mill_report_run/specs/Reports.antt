@@ -15,7 +15,7 @@ use Rattle.mill_job.specs.Jobs.{part_tool_of}
 use Rattle.mill_job.specs.declared.fields.JobFields.{JobFields}
 use Rattle.mill_gouge.specs.Lifts.{HasRoom, IsLeastLift}
 use Rattle.mill_answer.specs.Faults.{fault_line, fault_status}
-use Rattle.mill_load.specs.Programs.{IsProgramText}
+use Rattle.mill_load.specs.Programs.{IsProgramText, rules_of}
 use Rattle.mill_load.specs.Setup.{IsJobText, IsPartText}
 use Rattle.mill_load.specs.declared.load.LoadFault.{LoadFault}
 use Rattle.mill_report.specs.Columns.{IsLeftAfter}
@@ -65,7 +65,7 @@ IsLift job part moves reason lift = lift ≡ None
 -- the items of some findings: each with its place in the program's text and its lift
 pub record AreItems (texts : Texts) (job : JobFields) (part : List Tri) (moves : List Move) (found : List Reason) (items : List Data) : Type 0 where
   pub places : List LineSpan
-  pub places_are : ArePlaces (home job) job.unit texts.program places
+  pub places_are : ArePlaces (home job) job.unit (rules_of job) texts.program places
   pub lifts : List (Option ℤ)
   pub lifts_are : AllZip (IsLift job part moves) found lifts
   pub items_are : items ≡ failing_data job part moves texts.program places found lifts

@@ -3,7 +3,7 @@ ghost use Rattle.std.specs.Prelude.{◌≡◌, All, IfOk, List, Ok, false, lengt
 ghost use Rattle.mill_base.specs.declared.motion.Move.{Move as OneMove};
 ghost use Rattle.mill_job.specs.Columns.{home};
 ghost use Rattle.mill_load.specs.Loads.{AreMoves};
-ghost use Rattle.mill_load.specs.Programs.{IsProgramText};
+ghost use Rattle.mill_load.specs.Programs.{IsProgramText, rules_of};
 ghost use Rattle.mill_load.specs.Setup.{Fits};
 ghost use Rattle.mill_ngc.specs.Lines.{ArePlaces};
 ghost use Rattle.mill_ngc.specs.Programs.{program_of};
@@ -18,6 +18,7 @@ use crate::sources::Sources;
 use mill_base::{Move, WantOfMemory};
 use mill_document::{failing_values, tops_met};
 use mill_job::Job;
+use mill_load::rules_for;
 use mill_ngc::{LineSpan, places};
 use mill_part::SortedPart;
 use mill_verify::Reason;
@@ -86,10 +87,18 @@ fn told_items(
 fn places_of(alloc: Global, sources: &Sources, job: &Job) -> Result<Vec<LineSpan>, WantOfMemory>
     requires { Fits sources.now.program }
     ensures are { IfOk result (λ places.
-        ArePlaces (home job.now.fields) job.now.fields.unit sources.now.program places.items) }
+        ArePlaces (home job.now.fields) job.now.fields.unit (rules_of job.now.fields)
+        sources.now.program places.items) }
     ensures all { IfOk result (λ places. (moves : List OneMove)
-        → program_of (home job.now.fields) job.now.fields.unit sources.now.program ≡ Ok moves
+        → program_of (home job.now.fields) job.now.fields.unit (rules_of job.now.fields)
+        sources.now.program ≡ Ok moves
         → length places.items ≡ length moves) }
 {
-    places(alloc, sources.program.text(), job.home(), job.fields.unit)
+    places(
+        alloc,
+        sources.program.text(),
+        job.home(),
+        job.fields.unit,
+        rules_for(job),
+    )
 }

@@ -13,7 +13,7 @@ use crate::tell::{tell_fault, tell_refusal, tell_report};
 use crate::words::{Asked, read_words};
 use mill_answer::Status;
 use mill_io::{Shelf, Sink};
-use mill_verify::one_verdict;
+use mill_verify::{one_verdict, start_is_safe};
 use std::alloc::Global;
 use std::thread::Threads;
 
@@ -65,9 +65,10 @@ pub fn run<R: Threads + Sync, S: Shelf, O: Sink>(
     ensures headline { Headline (map string_bytes words.now) (call_of result
         (S.shows shelf.old) (S.shows shelf.new) (O.shows out.old) (O.shows out.new)) }
 {
-    // A law without code: there is at most one verdict on a program. The last part of the headline
-    // rests on it.
+    // Laws without code, on which the headline rests: there is at most one verdict on a program,
+    // and a tool that may start anywhere comes safely to where the moves begin.
     one_verdict();
+    start_is_safe();
     work(rt, alloc, words, shelf, out)
 }
 

@@ -8,11 +8,10 @@ ghost use Rattle.mill_base.specs.Ranges.{MoveInRange};
 ghost use Rattle.mill_base.specs.Sizes.{radius_of};
 ghost use Rattle.mill_base.specs.Solids.{IsSolid};
 ghost use Rattle.mill_job.specs.Columns.{home};
-ghost use Rattle.mill_job.specs.Jobs.{IsHeldOff};
 
 use mill_base::{Box2, Cutter, Kind, Move, Pt3, Solid, Unit};
 use mill_decimal::Snap;
-use mill_job::{Job, JobFields, Levels, Place};
+use mill_job::{Fixtures, Job, JobFields, Levels, Place, Start};
 use mill_part::SortedPart;
 use mill_tables::part_under;
 use std::alloc::Global;
@@ -21,11 +20,10 @@ use std::test::Fail;
 /// A block of stock from 0 to 300 over a square of 200, and nine columns in it, 100 apart. The
 /// cutter is so narrow that it cuts one column at a time. A feed may cut this deep and no deeper; 0
 /// is no limit.
-#[tactic(auto, unfolding(mill_job::specs::Jobs::HasRoom, mill_job::specs::Jobs::HolderHasRoom, mill_job::specs::Slack::graze_of))]
+#[tactic(auto, using(mill_job::proofs::NoSlack::no_slack_holder), unfolding(mill_job::specs::Fixtures::AreFixtures, mill_job::specs::Jobs::HasRoom, mill_job::specs::Slack::graze_of))]
 pub(crate) fn block_job(max_cut: u8, holder: Option<Solid>) -> Job
     requires holder_ok { IfSome holder IsSolid }
     requires stickout { IfSome holder (λ around. pos 1 ≤ℤ around.lift) }
-    requires held_off { IfSome holder (IsHeldOff (pos 0)) }
     requires wider { IfSome holder (λ around. pos 50 <ℤ radius_of around.cutter) }
     ensures top { result.fields.top ≡ pos 300 }
     ensures start { home result.fields ≡ point_at (pos 100) (pos 100) (pos 400) }
@@ -60,6 +58,9 @@ pub(crate) fn block_job(max_cut: u8, holder: Option<Solid>) -> Job
         slack: 0,
         overcut: 0,
         graze: None,
+        keep_out: Fixtures::NONE,
+        start: Start::Home,
+        spindle: false,
     })
 }
 

@@ -1,5 +1,5 @@
 -- Where the files are told, what was read decides the answer.
-use Rattle.std.proofs.Common.{◌≡◌, ◌⊎◌, ℕ, zero, suc, List, [], ◌∷◌, length, Option, Ok, Err, refl, sym, ap, subst, ◌∙◌, inl, inr, arith}
+use Rattle.std.proofs.Common.{◌≡◌, ◌⊎◌, ℕ, zero, suc, Bool, true, false, List, [], ◌∷◌, length, Option, Ok, Err, refl, sym, ap, subst, ◌∙◌, inl, inr, arith}
 use Rattle.std.specs.Prelude.{◌<◌, ℤ, All, IsSome}
 use Rattle.std.proofs.lemmas.List.Elements.{All-get_or, All-head, All-tail}
 use Rattle.mill_base.specs.declared.points.Tri.{Tri}
@@ -13,7 +13,7 @@ use Rattle.mill_job.proofs.OneList.{one_list}
 use Rattle.mill_verify.specs.Files.{File as CutFile}
 use Rattle.mill_verify.specs.Lists.{IsListVerdict}
 use Rattle.mill_verify.specs.declared.list.ListVerdict.{ListVerdict}
-use Rattle.mill_plan.specs.Plans.{done, too_many_nodes, too_many_moves, uncut, held}
+use Rattle.mill_plan.specs.Plans.{PlanAnswer, done, too_many_nodes, too_many_moves, uncut, held}
 use Rattle.mill_command.specs.Requests.{verify, plan, drop, level, stock, rest, sample}
 use Rattle.mill_load.specs.declared.file.File.TheVariants.{Job as JobFile, Part as PartFile, Program as ProgramFile, List as ListFile, StepProgram}
 use Rattle.mill_load.specs.declared.load.Unfit.{Unfit}
@@ -25,6 +25,7 @@ use Rattle.mill_decimal.specs.declared.fault.DecFault.{DecFault}
 use Rattle.mill_run.specs.Answers.{Answer, refused_word, unfit, judged, planned, dropped, leveled, stocked, judged_files, sampled, answer_status, IsAnswer}
 use Rattle.mill_load.specs.Places.{ReadsPlace, RefusesWord, ReadsHeight, RefusesZ}
 use Rattle.mill_run.specs.Drop.{RefusesPlace}
+use Rattle.mill_run.specs.Plan.{IsUnfitPlan, Plans}
 use Rattle.mill_run.specs.Level.{RefusesHeight, outlines, too_many_nodes as too_fine}
 use Rattle.mill_run.specs.Rest.{RestTexts, rest_texts, AreRestTold, IsListText, IsRefusedList, ReadsList, step_at, ReadsStep, ReadsSteps, ReadsRest, LongList, RefusesList, ReadsToStep, LongStep, RefusesStep, IsUnfitRest, JudgesFiles, list_status}
 use Rattle.mill_load.specs.Setup.{SetupTexts, setup_texts, AreSetupTold, IsTooLong, IsTooLongJob, IsJobText, IsRefusedJob, ReadsJob, ReadsPart, ReadsSetup, IsUnfit, IsUnfitWith}
@@ -67,23 +68,53 @@ is_judged contents files workers job part moves (sampled n answer) told r h = ab
 
 -- ---- `plan`
 
+on_or_off : (b : Bool) → b ≡ true → b ≡ false → ⊥
+on_or_off b on off = cc
+
+-- files that are told and read aren't refused, where the job asks for no spindle
+fit_plan : (texts : SetupTexts) (job : JobFields) (part : List Tri) (u : Unfit) → AreSetupTold texts → ReadsSetup texts job part → job.spindle ≡ false → IsUnfitPlan texts u → ⊥
+fit_plan texts job part u told r off (inl h) = fit_setup texts job part u told r (unfit_of _ texts u h)
+fit_plan texts job part u told r off (inr h) =
+    let same : h.job ≡ job = same_job texts h.job job told.job h.job_is r.job_is in
+    on_or_off job.spindle (subst (λ (j : JobFields). j.spindle ≡ true) same h.turns) off
+
 -- files that are told and read have a plan, or there is none, and nothing is refused
 pub is_planned : (contents : List ℕ → Option (List ℕ)) (files : PlanFiles) (workers : ℕ) (job : JobFields) (part : List Tri) (a : Answer)
-    → AreSetupTold (setup_texts contents files.job files.part) → ReadsSetup (setup_texts contents files.job files.part) job part
+    → AreSetupTold (setup_texts contents files.job files.part) → ReadsSetup (setup_texts contents files.job files.part) job part → job.spindle ≡ false
     → IsAnswer contents (plan files.job files.part files.out workers) a → (answer_status a ≡ 0) ⊎ ((answer_status a ≡ 8) ⊎ (answer_status a ≡ 9))
-is_planned contents files workers job part (refused_word coordinate fault) told r h = absurd h
-is_planned contents files workers job part (unfit u) told r h = absurd (fit_setup (setup_texts contents files.job files.part) job part u told r h)
-is_planned contents files workers job part (judged j p m v) told r h = absurd h
-is_planned contents files workers job part (planned j q name (done text count columns left)) told r h = inl refl
-is_planned contents files workers job part (planned j q name (uncut row col top)) told r h = inr (inl refl)
-is_planned contents files workers job part (planned j q name (held number row col)) told r h = inr (inl refl)
-is_planned contents files workers job part (planned j q name (too_many_nodes nodes)) told r h = inr (inr refl)
-is_planned contents files workers job part (planned j q name too_many_moves) told r h = inr (inr refl)
-is_planned contents files workers job part (dropped unit height) told r h = absurd h
-is_planned contents files workers job part (leveled unit answer) told r h = absurd h
-is_planned contents files workers job part (stocked j m name answer) told r h = absurd h
-is_planned contents files workers job part (judged_files j q ss fs v) told r h = absurd h
-is_planned contents files workers job part (sampled n answer) told r h = absurd h
+is_planned contents files workers job part (refused_word coordinate fault) told r off h = absurd h
+is_planned contents files workers job part (unfit u) told r off h = absurd (fit_plan (setup_texts contents files.job files.part) job part u told r off h)
+is_planned contents files workers job part (judged j p m v) told r off h = absurd h
+is_planned contents files workers job part (planned j q name (done text count columns left)) told r off h = inl refl
+is_planned contents files workers job part (planned j q name (uncut row col top)) told r off h = inr (inl refl)
+is_planned contents files workers job part (planned j q name (held number row col)) told r off h = inr (inl refl)
+is_planned contents files workers job part (planned j q name (too_many_nodes nodes)) told r off h = inr (inr refl)
+is_planned contents files workers job part (planned j q name too_many_moves) told r off h = inr (inr refl)
+is_planned contents files workers job part (dropped unit height) told r off h = absurd h
+is_planned contents files workers job part (leveled unit answer) told r off h = absurd h
+is_planned contents files workers job part (stocked j m name answer) told r off h = absurd h
+is_planned contents files workers job part (judged_files j q ss fs v) told r off h = absurd h
+is_planned contents files workers job part (sampled n answer) told r off h = absurd h
+
+-- a job that is read and asks for a spindle has no plan
+no_plan : (contents : List ℕ → Option (List ℕ)) (files : PlanFiles) (job j : JobFields) (part : List Tri) (answer : PlanAnswer) → IsSome (contents files.job)
+    → ReadsJob (setup_texts contents files.job files.part) job → job.spindle ≡ true → Plans (setup_texts contents files.job files.part) j part answer → ⊥
+no_plan contents files job j part answer told r on h =
+    let same : job ≡ j = same_job (setup_texts contents files.job files.part) job j told r h.setup_is.job_is in
+    on_or_off j.spindle (subst (λ (k : JobFields). k.spindle ≡ true) same on) h.still
+
+-- so it is refused
+pub is_unfed : (contents : List ℕ → Option (List ℕ)) (files : PlanFiles) (workers : ℕ) (job : JobFields) (a : Answer) → IsSome (contents files.job)
+    → ReadsJob (setup_texts contents files.job files.part) job → job.spindle ≡ true → IsAnswer contents (plan files.job files.part files.out workers) a → answer_status a ≡ 4
+is_unfed contents files workers job (refused_word coordinate fault) told r on h = absurd h
+is_unfed contents files workers job (unfit u) told r on h = refl
+is_unfed contents files workers job (judged j p m v) told r on h = absurd h
+is_unfed contents files workers job (planned j q name answer) told r on h = absurd (no_plan contents files job j q answer told r on h.1)
+is_unfed contents files workers job (dropped unit height) told r on h = absurd h
+is_unfed contents files workers job (leveled unit answer) told r on h = absurd h
+is_unfed contents files workers job (stocked j m name answer) told r on h = absurd h
+is_unfed contents files workers job (judged_files j q ss fs v) told r on h = absurd h
+is_unfed contents files workers job (sampled n answer) told r on h = absurd h
 
 -- ---- `drop`
 

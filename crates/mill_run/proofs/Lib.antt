@@ -7,11 +7,11 @@ pub mod Planning
 pub mod Stocks
 pub mod Rests
 pub mod Samples
-pub mod Follows
 pub mod Lengths
 pub mod Outcomes
 pub mod Headlines
 pub mod Named
 pub mod Triangles
+pub mod Fixtures
 pub mod OneAnswers
 mod SampleParts

@@ -1,5 +1,5 @@
 -- Where its files are told, a request has one answer: each answer is that of the first check that fails, and there is one such check.
-use Rattle.std.proofs.Common.{◌≡◌, ◌⊎◌, ℕ, List, Option, Err, length, take, refl, sym, ap, subst, ◌∙◌, inl, inr, arith, length-take-le}
+use Rattle.std.proofs.Common.{◌≡◌, ◌⊎◌, ℕ, Bool, true, false, List, Option, Err, length, take, refl, sym, ap, subst, ◌∙◌, inl, inr, arith, length-take-le}
 use Rattle.std.specs.Prelude.{◌<◌, ◌≤◌, ℤ, All, IfSome, IsSome}
 use Rattle.std.proofs.lemmas.Bool.{cases_lt}
 use Rattle.std.proofs.lemmas.List.{get_or-take}
@@ -18,6 +18,7 @@ use Rattle.mill_job.specs.declared.fault.JobFault.{JobFault}
 use Rattle.mill_job.specs.declared.fields.JobFields.{JobFields}
 use Rattle.mill_job.specs.declared.fields.Place.{Place}
 use Rattle.mill_level.specs.Waterlines.{HasManyNodes, OneWaterline}
+use Rattle.mill_obstacles.specs.Faces.{obstacles_of}
 use Rattle.mill_job.proofs.OneList.{one_list}
 use Rattle.mill_job.specs.declared.step.Step.{Step}
 use Rattle.mill_load.specs.Places.{ReadsHeight, ReadsPlace, RefusesWord, RefusesZ}
@@ -37,7 +38,7 @@ use Rattle.mill_answer.proofs.Told.{told_both}
 use Rattle.mill_run.specs.Answers.{Answer, IsAnswer, dropped, judged, judged_files, leveled, planned, refused_word, sampled, stocked, unfit}
 use Rattle.mill_run.specs.Drop.{Drops, HasPlace, RefusesPlace}
 use Rattle.mill_run.specs.Level.{HasHeight, IsLevelAnswer, LevelAnswer, Levels, RefusesHeight, outlines, too_many_nodes}
-use Rattle.mill_run.specs.Plan.{Plans}
+use Rattle.mill_run.specs.Plan.{IsUnfitPlan, LacksFeed, NeedsNoFeed, Plans}
 use Rattle.mill_run.specs.Laws.{IsListTold, OneAnswer}
 use Rattle.mill_run.specs.Rest.{AreRestTold, IsListText, IsRefusedList, IsUnfitRest, JudgesFiles, ReadsList, ReadsRest, ReadsStep, ReadsSteps, ReadsToStep, RestTexts, rest_texts, step_at}
 use Rattle.mill_run.specs.Sample.{Samples}
@@ -79,37 +80,6 @@ verify_answer contents job part program workers (sampled size answer) h = absurd
 one_verify : OneJudgment → (texts : Texts) (a b : Answer) → AreTold texts → VerifyAnswers texts a → VerifyAnswers texts b → a ≡ b
 one_verify one texts a b told s t = s.1 ∙ ap answer_of (one texts s.0 t.0 told s.2 t.2) ∙ sym t.1
 
--- ---- `plan`
-
-one_planned : OnePlanAnswer → (texts : SetupTexts) (j q : JobFields) (p o : List Tri) (name : List ℕ) (answer next : PlanAnswer) → AreSetupTold texts → Plans texts j p answer → Plans texts q o next
-    → planned j p name answer ≡ planned q o name next
-one_planned one texts j q p o name answer next told h k =
-    let e : j ≡ q = same_job texts j q told.job h.setup_is.job_is k.setup_is.job_is in
-    let f : p ≡ o = same_part texts q p o told.part (subst (λ (x : JobFields). ReadsPart texts x p) e h.setup_is.part_is) k.setup_is.part_is in
-    let is : IsPlanAnswer q o answer = subst (λ (x : List Tri). IsPlanAnswer q x answer) f (subst (λ (x : JobFields). IsPlanAnswer x p answer) e h.is) in
-    let same : answer ≡ next = one q o answer next is k.is in
-    λ i. planned (e i) (f i) name (same i)
-
-abbrev PlanAnswers : SetupTexts → List ℕ → Answer → Type 0
-PlanAnswers texts out a = ((u : Unfit) × (a ≡ unfit u) × IsUnfit texts u) ⊎ ((j : JobFields) × (p : List Tri) × (answer : PlanAnswer) × (a ≡ planned j p out answer) × Plans texts j p answer)
-
-plan_answer : (contents : List ℕ → Option (List ℕ)) (job part out : List ℕ) (workers : ℕ) (a : Answer) → IsAnswer contents (plan job part out workers) a → PlanAnswers (setup_texts contents job part) out a
-plan_answer contents job part out workers (refused_word coordinate fault) h = absurd h
-plan_answer contents job part out workers (unfit u) h = inl (u, refl, h)
-plan_answer contents job part out workers (judged j p m v) h = absurd h
-plan_answer contents job part out workers (planned j p name answer) h = inr (j, p, answer, ap (λ n. planned j p n answer) h.0, h.1)
-plan_answer contents job part out workers (dropped unit height) h = absurd h
-plan_answer contents job part out workers (leveled unit answer) h = absurd h
-plan_answer contents job part out workers (stocked j m name answer) h = absurd h
-plan_answer contents job part out workers (judged_files j p ss fs v) h = absurd h
-plan_answer contents job part out workers (sampled size answer) h = absurd h
-
-one_plan : OnePlanAnswer → (texts : SetupTexts) (out : List ℕ) (a b : Answer) → AreSetupTold texts → PlanAnswers texts out a → PlanAnswers texts out b → a ≡ b
-one_plan one texts out a b told (inl s) (inl t) = s.1 ∙ ap unfit (one_unfit texts s.0 t.0 told s.2 t.2) ∙ sym t.1
-one_plan one texts out a b told (inl s) (inr t) = absurd (fit_setup texts t.0 t.1 s.0 told t.4.setup_is s.2)
-one_plan one texts out a b told (inr s) (inl t) = absurd (fit_setup texts s.0 s.1 t.0 told s.4.setup_is t.2)
-one_plan one texts out a b told (inr s) (inr t) = s.3 ∙ one_planned one texts s.0 t.0 s.1 t.1 out s.2 t.2 told s.4 t.4 ∙ sym t.3
-
 -- ---- where words are read between job and part
 
 -- the job stops it; or the words are read, and a file stops it
@@ -127,6 +97,62 @@ stop_with Words texts (PartRefused fault) h = inr h
 stop_with Words texts (ListRefused fault) h = inr h
 stop_with Words texts (PartTop height top unit) h = inr h
 stop_with Words texts (ProgramRefused file fault) h = inr h
+
+-- ---- `plan`
+
+one_planned : OnePlanAnswer → (texts : SetupTexts) (j q : JobFields) (p o : List Tri) (name : List ℕ) (answer next : PlanAnswer) → AreSetupTold texts → Plans texts j p answer → Plans texts q o next
+    → planned j p name answer ≡ planned q o name next
+one_planned one texts j q p o name answer next told h k =
+    let e : j ≡ q = same_job texts j q told.job h.setup_is.job_is k.setup_is.job_is in
+    let f : p ≡ o = same_part texts q p o told.part (subst (λ (x : JobFields). ReadsPart texts x p) e h.setup_is.part_is) k.setup_is.part_is in
+    let is : IsPlanAnswer q o answer = subst (λ (x : List Tri). IsPlanAnswer q x answer) f (subst (λ (x : JobFields). IsPlanAnswer x p answer) e h.is) in
+    let same : answer ≡ next = one q o answer next is k.is in
+    λ i. planned (e i) (f i) name (same i)
+
+abbrev PlanAnswers : SetupTexts → List ℕ → Answer → Type 0
+PlanAnswers texts out a = ((u : Unfit) × (a ≡ unfit u) × IsUnfitPlan texts u) ⊎ ((j : JobFields) × (p : List Tri) × (answer : PlanAnswer) × (a ≡ planned j p out answer) × Plans texts j p answer)
+
+plan_answer : (contents : List ℕ → Option (List ℕ)) (job part out : List ℕ) (workers : ℕ) (a : Answer) → IsAnswer contents (plan job part out workers) a → PlanAnswers (setup_texts contents job part) out a
+plan_answer contents job part out workers (refused_word coordinate fault) h = absurd h
+plan_answer contents job part out workers (unfit u) h = inl (u, refl, h)
+plan_answer contents job part out workers (judged j p m v) h = absurd h
+plan_answer contents job part out workers (planned j p name answer) h = inr (j, p, answer, ap (λ n. planned j p n answer) h.0, h.1)
+plan_answer contents job part out workers (dropped unit height) h = absurd h
+plan_answer contents job part out workers (leveled unit answer) h = absurd h
+plan_answer contents job part out workers (stocked j m name answer) h = absurd h
+plan_answer contents job part out workers (judged_files j p ss fs v) h = absurd h
+plan_answer contents job part out workers (sampled size answer) h = absurd h
+
+module _ (texts : SetupTexts) (told : AreSetupTold texts) where
+  -- a job asks for a spindle or it doesn't
+  turns_or_still : (fault : Unfit) → LacksFeed texts fault → NeedsNoFeed texts → ⊥
+  turns_or_still fault h k =
+      let same : h.job ≡ k.job = same_job texts h.job k.job told.job h.job_is k.job_is in
+      let turns : k.job.spindle ≡ true = subst (λ (j : JobFields). j.spindle ≡ true) same h.turns in
+      apart k.job.spindle turns k.still
+    where
+      apart : (b : Bool) → b ≡ true → b ≡ false → ⊥
+      apart b on off = cc
+
+  feed_or_file : (u fault : Unfit) → LacksFeed texts fault → StopsWith (NeedsNoFeed texts) texts u → ⊥
+  feed_or_file u fault h (inl s) = job_goes_on texts.job h.job u told.job h.job_is s
+  feed_or_file u fault h (inr s) = turns_or_still fault h s.0
+
+  one_plan_stop : (u w : Unfit) → IsUnfitPlan texts u → IsUnfitPlan texts w → u ≡ w
+  one_plan_stop u w (inl s) (inl t) = one_unfit texts u w told (unfit_of _ texts u s) (unfit_of _ texts w t)
+  one_plan_stop u w (inl s) (inr t) = absurd (feed_or_file u w t (stop_with (NeedsNoFeed texts) texts u s))
+  one_plan_stop u w (inr s) (inl t) = absurd (feed_or_file w u s (stop_with (NeedsNoFeed texts) texts w t))
+  one_plan_stop u w (inr s) (inr t) = s.is ∙ sym t.is
+
+  planned_or_unfit : (j : JobFields) (p : List Tri) (answer : PlanAnswer) (u : Unfit) → Plans texts j p answer → IsUnfitPlan texts u → ⊥
+  planned_or_unfit j p answer u h (inl s) = fit_setup texts j p u told h.setup_is (unfit_of _ texts u s)
+  planned_or_unfit j p answer u h (inr s) = turns_or_still u s (record { job = j; job_is = h.setup_is.job_is; still = h.still })
+
+one_plan : OnePlanAnswer → (texts : SetupTexts) (out : List ℕ) (a b : Answer) → AreSetupTold texts → PlanAnswers texts out a → PlanAnswers texts out b → a ≡ b
+one_plan one texts out a b told (inl s) (inl t) = s.1 ∙ ap unfit (one_plan_stop texts told s.0 t.0 s.2 t.2) ∙ sym t.1
+one_plan one texts out a b told (inl s) (inr t) = absurd (planned_or_unfit texts told t.0 t.1 t.2 s.0 t.4 s.2)
+one_plan one texts out a b told (inr s) (inl t) = absurd (planned_or_unfit texts told s.0 s.1 s.2 t.0 s.4 t.2)
+one_plan one texts out a b told (inr s) (inr t) = s.3 ∙ one_planned one texts s.0 t.0 s.1 t.1 out s.2 t.2 told s.4 t.4 ∙ sym t.3
 
 -- ---- `drop`
 
@@ -178,13 +204,14 @@ module _ (texts : SetupTexts) (told : AreSetupTold texts) (x y : List ℕ) where
       let place : ReadsPlace k.job.unit x y h.place = subst (λ (j : JobFields). ReadsPlace j.unit x y h.place) e h.place_is in
       let px : h.place.x ≡ k.place.x = ok_is h.place.x k.place.x (sym place.x_is ∙ k.place_is.x_is) in
       let py : h.place.y ≡ k.place.y = ok_is h.place.y k.place.y (sym place.y_is ∙ k.place_is.y_is) in
-      let is : IsDropHeight (tool_of k.job) k.part k.place.x k.place.y k.job.floor z =
-      subst (λ (v : ℤ). IsDropHeight (tool_of k.job) k.part k.place.x v k.job.floor z) py
-      (subst (λ (v : ℤ). IsDropHeight (tool_of k.job) k.part v h.place.y k.job.floor z) px
-      (subst (λ (p : List Tri). IsDropHeight (tool_of k.job) p h.place.x h.place.y k.job.floor z) f
-      (subst (λ (j : JobFields). IsDropHeight (tool_of j) h.part h.place.x h.place.y j.floor z) e h.is))) in
+      let all : List Tri = obstacles_of k.job k.part in
+      let is : IsDropHeight (tool_of k.job) all k.place.x k.place.y k.job.floor z =
+      subst (λ (v : ℤ). IsDropHeight (tool_of k.job) all k.place.x v k.job.floor z) py
+      (subst (λ (v : ℤ). IsDropHeight (tool_of k.job) all v h.place.y k.job.floor z) px
+      (subst (λ (p : List Tri). IsDropHeight (tool_of k.job) (obstacles_of k.job p) h.place.x h.place.y k.job.floor z) f
+      (subst (λ (j : JobFields). IsDropHeight (tool_of j) (obstacles_of j h.part) h.place.x h.place.y j.floor z) e h.is))) in
       let u : unit ≡ other = h.unit_is ∙ ap (λ (j : JobFields). j.unit) e ∙ sym k.unit_is in
-      let same : z ≡ w = one_height (tool_of k.job) k.part k.place.x k.place.y k.job.floor z w is k.is in
+      let same : z ≡ w = one_height (tool_of k.job) all k.place.x k.place.y k.job.floor z w is k.is in
       λ i. dropped (u i) (same i)
 
   one_drop : (a b : Answer) → DropAnswers texts x y a → DropAnswers texts x y b → a ≡ b
@@ -230,7 +257,7 @@ few_or_many job nodes few many = over nodes (node_count (finish_lattice job)) MA
     over n m most e lt le = omega (e, lt, le, arith)
 
 one_level_answer : OneWaterline → (job : JobFields) (part : List Tri) (height : ℤ) (a b : LevelAnswer) → IsLevelAnswer job part height a → IsLevelAnswer job part height b → a ≡ b
-one_level_answer one job part height (outlines f) (outlines g) h k = ap outlines (one (tool_of job) part height (finish_lattice job) f g h.0 k.0)
+one_level_answer one job part height (outlines f) (outlines g) h k = ap outlines (one (tool_of job) (obstacles_of job part) height (finish_lattice job) f g h.0 k.0)
 one_level_answer one job part height (outlines f) (too_many_nodes n) h k = absurd (few_or_many job n h.1 k)
 one_level_answer one job part height (too_many_nodes n) (outlines g) h k = absurd (few_or_many job n k.1 h)
 one_level_answer one job part height (too_many_nodes n) (too_many_nodes m) h k = ap too_many_nodes (h.count ∙ sym k.count)

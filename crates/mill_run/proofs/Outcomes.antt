@@ -11,7 +11,7 @@ use Rattle.mill_run.specs.Headline.{Answered, Answers, Completes, Untaken}
 use Rattle.mill_run.specs.Outcomes.{Outcome, help, bad_words, no_memory, read_fault, answered, outcome_status, IsOutcomeOf, ShowsHelp, RefusesWords, ShowsWhole, HasOutcome}
 use Rattle.mill_run.specs.Rest.{list_status}
 use Rattle.mill_answer.specs.Verify.{verdict_status}
-use Rattle.mill_run.proofs.Answering.{is_judged, is_planned, is_dropped, is_leveled, is_stocked, is_judged_in_turn, is_sampled}
+use Rattle.mill_run.proofs.Answering.{is_judged, is_planned, is_unfed, is_dropped, is_leveled, is_stocked, is_judged_in_turn, is_sampled}
 use Rattle.mill_answer.proofs.Counts.{no, on}
 use Rattle.mill_run.proofs.Blaming.{answer_not_2, not_6, not_7, shown_whole}
 use Rattle.mill_run.proofs.Taken.{not_taken, asked_outcome}
@@ -78,10 +78,15 @@ completes_of words call has = record {
         | inl a ↦ (let v = is_judged contents files asks.0 job part moves a.answer told read (a.is contents held) in zero_three call.status v.verdict (a.status ∙ v.same))
         | inr e ↦ inr (inr e)
       ];
-  plans = λ files contents job part asks held told read fine.
+  plans = λ files contents job part asks held told read off fine.
       elim (served_fine words call (plan files.job files.part files.out asks.0) has asks.1 fine) [
-        | inl a ↦ plan_statuses call.status (answer_status a.answer) a.status (is_planned contents files asks.0 job part a.answer told read (a.is contents held))
+        | inl a ↦ plan_statuses call.status (answer_status a.answer) a.status (is_planned contents files asks.0 job part a.answer told read off (a.is contents held))
         | inr e ↦ inr (inr (inr e))
+      ];
+  unfed = λ files contents job asks held told read on fine.
+      elim (served_fine words call (plan files.job files.part files.out asks.0) has asks.1 fine) [
+        | inl a ↦ inl (a.status ∙ is_unfed contents files asks.0 job a.answer told read on (a.is contents held))
+        | inr e ↦ inr e
       ];
   drops = λ given contents place job part asks reads held told read fine.
       elim (served_fine words call (drop given.job given.part given.x given.y) has asks fine) [

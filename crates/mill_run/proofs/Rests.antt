@@ -8,9 +8,11 @@ use Rattle.mill_command.specs.Requests.{rest}
 use Rattle.mill_decimal.specs.Decimals.{canonical}
 use Rattle.mill_io.specs.Readings.{Reading}
 use Rattle.mill_job.specs.declared.fields.JobFields.{JobFields}
+use Rattle.mill_job.specs.Columns.{home}
 use Rattle.mill_job.specs.declared.step.Step.{Step}
+use Rattle.mill_ngc.specs.Pieces.{FollowOn}
 use Rattle.mill_base.specs.declared.motion.Move.{Move}
-use Rattle.mill_verify.specs.Files.{File as CutFile, file_at}
+use Rattle.mill_verify.specs.Files.{File as CutFile, GoOn, file_at}
 use Rattle.mill_verify.specs.declared.list.ListVerdict.TheVariants.{Accept}
 use Rattle.mill_load.specs.declared.file.File.{File}
 use Rattle.mill_load.specs.declared.file.File.TheVariants.{Job as JobFile, Part as PartFile, Program as ProgramFile, List as ListFile, StepProgram}
@@ -23,6 +25,7 @@ use Rattle.mill_answer.specs.Calls.{Call, HoldsReads}
 use Rattle.mill_answer.specs.Lines.{line}
 use Rattle.mill_answer.specs.Printed.{margin_words}
 use Rattle.mill_run.specs.inner.Loads.{AreFilesReady, FailsInRest, LoadsFiles, LoadsList, StopsAtStep, rest_name}
+use Rattle.mill_load.specs.Programs.{rules_of}
 use Rattle.mill_load.specs.Loads.{LoadsProgram, LoadsSetup, NamesFault, OnlyLoads, ReadsFile}
 use Rattle.mill_run.specs.inner.Prints.{TriesListVerdict, fault_outcome}
 use Rattle.mill_run.specs.Outcomes.{no_memory, Fails, IsOutcome, Serves}
@@ -30,6 +33,13 @@ use Rattle.mill_run.specs.Words.{RestFiles}
 use Rattle.mill_run.specs.Rest.{RestTexts, rest_texts, ReadsList, step_at, ReadsStep, ReadsSteps, ReadsToStep, IsUnfitRest, IsReadBeforeRest, list_line}
 use Rattle.mill_load.specs.Setup.{ReadsSetup}
 use Rattle.mill_run.proofs.Serving.{answer_serves, answer_shows, printed_shows, short_serves}
+
+-- ---- one program
+
+-- moves that follow on each other by the job's rules do so as those of a file
+pub go_on : (job : JobFields) (moves : List Move) → FollowOn (home job) (rules_of job) moves → GoOn job moves
+unfolding rules_of
+go_on job moves follow = record { from = follow.from; over = follow.over; at_home = λ here. follow.at_start (rw here refl); follow = follow.follow }
 
 -- ---- the list
 

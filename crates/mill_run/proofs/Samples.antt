@@ -1,5 +1,5 @@
 -- The work on `sample`, put together.
-use Rattle.std.proofs.Common.{◌≡◌, ℕ, List, [], refl, sym, ap, subst, ◌∙◌, inl, inr}
+use Rattle.std.proofs.Common.{◌≡◌, ℕ, false, List, [], refl, sym, ap, subst, ◌∙◌, inl, inr}
 use Rattle.std.specs.Prelude.{ℤ, IfOk, Result, Ok, Err}
 use Rattle.std.specs.Global.{Vec}
 use Rattle.std.proofs.lemmas.Result.{IfOk-weaker}
@@ -10,6 +10,8 @@ use Rattle.mill_base.specs.declared.unit.Unit.TheVariants.{Hundredth}
 use Rattle.mill_job.specs.Columns.{home}
 use Rattle.mill_job.specs.declared.fields.JobFields.{JobFields}
 use Rattle.mill_ngc.specs.Programs.{program_of}
+use Rattle.mill_load.specs.Programs.{rules_of}
+use Rattle.mill_load.proofs.Asked.{asks_start}
 use Rattle.mill_command.specs.Requests.{sample}
 use Rattle.mill_io.specs.Views.{StoreView, SinkView, ReadsOnly}
 use Rattle.mill_plan.specs.Plans.{too_many_nodes, done, too_many_moves, uncut, held, answer_of, IsDone, IsPlanAnswer, IsPlanFault}
@@ -37,11 +39,16 @@ no_fault r fault e meant =
     let is = meant.1 in
     cc
 
--- the verdict on a plan's text, as it reads, is the plan's
+-- the sample part's job asks for no spindle
+pub sample_still : (n : ℕ) (job : JobFields) (part : List Tri) → IsSample n job part → job.spindle ≡ false
+sample_still n job part made = ap (λ (j : JobFields). j.spindle) made.job_is
+
+-- the verdict on a plan's text, as it reads for a job that asks for no spindle, is the plan's
 pub plan_verdict : OneVerdict → (job : JobFields) (part : List Tri) (text : List ℕ) (count columns : ℕ) (left : ℤ) (read : List Move) (r : Result Verdict WantOfMemory)
-    → IsDone job part text count columns left → program_of (home job) job.unit text ≡ Ok read → IfOk r (IsVerdict job part read) → IfOk r (λ v. v ≡ Accept count columns left)
-plan_verdict one job part text count columns left read r made reads verdict =
-    let same : read ≡ made.moves = ok_is read made.moves (sym reads ∙ made.reads) in
+    → IsDone job part text count columns left → job.spindle ≡ false → program_of (home job) job.unit (rules_of job) text ≡ Ok read → IfOk r (IsVerdict job part read) → IfOk r (λ v. v ≡ Accept count columns left)
+plan_verdict one job part text count columns left read r made still reads verdict =
+    let planned : program_of (home job) job.unit (rules_of job) text ≡ Ok made.moves = rw (asks_start job still) made.reads in
+    let same : read ≡ made.moves = ok_is read made.moves (sym reads ∙ planned) in
     IfOk-weaker r (IsVerdict job part read) (λ v. v ≡ Accept count columns left)
     (λ v is. one job part made.moves v (Accept count columns left) (subst (λ (m : List Move). IsVerdict job part m v) same is) made.accepted) verdict
 

@@ -31,7 +31,7 @@ use Rattle.mill_run.specs.Level.{HasHeight}
 use Rattle.mill_run.specs.inner.Loads.{IsReady, Loads}
 use Rattle.mill_load.specs.Loads.{LoadsProgram, LoadsSetup, NamesFault, OnlyLoads}
 use Rattle.mill_answer.specs.Prints.{Prints, PrintsMade, PrintsFault}
-use Rattle.mill_run.specs.inner.Prints.{PrintsOutcome, PrintsOr, fault_outcome, refusal_outcome, TriesVerdict, PrintsHeight, TriesLevel}
+use Rattle.mill_run.specs.inner.Prints.{PrintsOutcome, PrintsOr, fault_outcome, refusal_outcome, TriesVerdict, TriesHeight, TriesLevel}
 use Rattle.mill_load.specs.Setup.{setup_texts, ReadsJob, ReadsSetup}
 use Rattle.mill_answer.specs.Verify.{Texts, texts_of, IsReadBeforeProgram, IsUnfitProgram}
 use Rattle.mill_answer.proofs.Counts.{rises}
@@ -168,8 +168,8 @@ word_serves job part x y call j coordinate fault read refused loads p =
 
 pub height_serves : (job part x y : List ℕ) (call : Call) (j : JobFields) (place : Place) (s : Setup) → ReadsPlace j.unit x y place → s.job.fields ≡ j
     → ((contents : List ℕ → Option (List ℕ)) → HoldsReads contents call → LoadsSetup (setup_texts contents job part) (Ok s)) → (let r : Result Setup LoadFault = Ok s in OnlyLoads call.store call.store_after r)
-    → PrintsHeight s place call.status call.sink call.sink_after → Serves (drop job part x y) call
-height_serves job part x y call j place s words same read loads h =
+    → TriesHeight s place call.status call.sink call.sink_after → Serves (drop job part x y) call
+height_serves job part x y call j place s words same read loads (inl h) =
     answer_serves (drop job part x y) call (dropped s.job.fields.unit h.height)
     (λ contents held. record {
       place = place;
@@ -181,6 +181,7 @@ height_serves job part x y call j place s words same read loads h =
       is = h.is;
     }) loads.held
     (answer_shows call (dropped s.job.fields.unit h.height) refl loads.only loads.reads h.printed)
+height_serves job part x y call j place s words same read loads (inr m) = short_serves (drop job part x y) call loads.held (printed_shows call no_memory refl loads.only loads.reads m)
 
 -- ---- `level`
 

@@ -16,11 +16,11 @@ use Rattle.mill_load.specs.declared.place.Coordinate.{Coordinate}
 use Rattle.mill_run.specs.Drop.{HasPlace, RefusesPlace, Drops, height_line}
 use Rattle.mill_answer.specs.Faults.{word_line, unfit_line}
 use Rattle.mill_run.specs.Level.{HasHeight, RefusesHeight, LevelAnswer, Levels, level_status, level_line}
-use Rattle.mill_run.specs.Plan.{Plans, plan_status, plan_line}
+use Rattle.mill_run.specs.Plan.{IsUnfitPlan, Plans, plan_status, plan_line}
 use Rattle.mill_run.specs.Rest.{rest_texts, IsUnfitRest, JudgesFiles, list_status, list_line}
 use Rattle.mill_run.specs.Sample.{Samples, sample_status, sample_line}
 use Rattle.mill_run.specs.Stock.{StockAnswer, drawn, stock_texts, DrawsStock, IsUnfitStock, stock_status, stock_line}
-use Rattle.mill_load.specs.Setup.{setup_texts, IsUnfit, IsUnfitWith}
+use Rattle.mill_load.specs.Setup.{setup_texts, IsUnfitWith}
 use Rattle.mill_answer.specs.Verify.{texts_of, IsUnfitProgram, Judges, verdict_status, verdict_line}
 
 -- a text and the name that it is to be stored under
@@ -76,7 +76,7 @@ answer_file _ = None
 abbrev pub IsAnswer : (List ℕ → Option (List ℕ)) → Request → Answer → Type 0
 IsAnswer contents (verify job part program workers) (unfit fault) = IsUnfitProgram (texts_of contents (record { job = job; part = part; program = program })) fault
 IsAnswer contents (verify job part program workers) (judged j p m verdict) = Judges (texts_of contents (record { job = job; part = part; program = program })) j p m verdict
-IsAnswer contents (plan job part out workers) (unfit fault) = IsUnfit (setup_texts contents job part) fault
+IsAnswer contents (plan job part out workers) (unfit fault) = IsUnfitPlan (setup_texts contents job part) fault
 IsAnswer contents (plan job part out workers) (planned j p name answer) = (name ≡ out) × Plans (setup_texts contents job part) j p answer
 IsAnswer contents (drop job part x y) (refused_word coordinate fault) = RefusesPlace (setup_texts contents job part) x y coordinate fault
 IsAnswer contents (drop job part x y) (unfit fault) = IsUnfitWith (HasPlace (setup_texts contents job part) x y) (setup_texts contents job part) fault

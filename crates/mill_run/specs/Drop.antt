@@ -7,6 +7,7 @@ use Rattle.mill_decimal.specs.declared.fault.DecFault.{DecFault}
 use Rattle.mill_job.specs.declared.fields.JobFields.{JobFields}
 use Rattle.mill_job.specs.Jobs.{tool_of}
 use Rattle.mill_drop.specs.Drops.{IsDropHeight}
+use Rattle.mill_obstacles.specs.Faces.{obstacles_of}
 use Rattle.mill_answer.specs.Lines.{line}
 use Rattle.mill_load.specs.declared.place.Coordinate.{Coordinate}
 use Rattle.mill_job.specs.declared.fields.Place.{Place}
@@ -30,7 +31,7 @@ pub record RefusesPlace (texts : SetupTexts) (x y : List ℕ) (coordinate : Coor
 
 -- ---- the answer
 
--- job, words and part are read, and this is the drop height of the job's tool at the place, not under the job's floor, in the job's unit
+-- job, words and part are read, and this is the drop height of the job's tool over part and fixtures at the place, not under the job's floor, in the job's unit
 pub record Drops (x y : List ℕ) (texts : SetupTexts) (unit : Unit) (height : ℤ) : Type 0 where
   pub place : Place
   pub job : JobFields
@@ -38,7 +39,7 @@ pub record Drops (x y : List ℕ) (texts : SetupTexts) (unit : Unit) (height : �
   pub unit_is : unit ≡ job.unit
   pub place_is : ReadsPlace job.unit x y place
   pub setup_is : ReadsSetup texts job part
-  pub is : IsDropHeight (tool_of job) part place.x place.y job.floor height
+  pub is : IsDropHeight (tool_of job) (obstacles_of job part) place.x place.y job.floor height
 
 -- the line of a drop height
 abbrev pub height_line : Unit → ℤ → List ℕ

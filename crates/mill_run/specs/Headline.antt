@@ -1,11 +1,14 @@
 -- What one call of the program means. What is said of files is said of whatever they hold, if they hold what the reads gave: `contents` tell of each name what its file holds, or nothing.
 -- What the store itself tells holds that too (`held` of HasOutcome).
-use Rattle.std.specs.Prelude.{◌⊎◌, ◌≡◌, ◌≢◌, ℕ, ℤ, false, List, length, All, Option, Some}
+use Rattle.std.specs.Prelude.{◌⊎◌, ◌≡◌, ◌≢◌, ℕ, ℤ, true, false, List, length, All, IsSome, Option, Some}
 use Rattle.mill_io.specs.Views.{IsWritten, IsStored}
 use Rattle.mill_base.specs.declared.points.Tri.{Tri}
+use Rattle.mill_base.specs.Motion.{Follow}
 use Rattle.mill_base.specs.declared.motion.Move.{Move}
+use Rattle.mill_base.specs.declared.points.Pt3.{Pt3}
 use Rattle.mill_command.specs.Requests.{Request, is_taken, request}
 use Rattle.mill_dexel.specs.Tops.{uncut}
+use Rattle.mill_job.specs.Columns.{home}
 use Rattle.mill_job.specs.Jobs.{IsJob}
 use Rattle.mill_job.specs.declared.fields.JobFields.{JobFields}
 use Rattle.mill_plan.specs.Plans.{done}
@@ -13,9 +16,10 @@ use Rattle.mill_stl.specs.Written.{ReadsBack}
 use Rattle.mill_verify.specs.Verdicts.{IsRejection, NamesLeaf}
 use Rattle.mill_job.specs.declared.step.Step.{Step}
 use Rattle.mill_verify.specs.Claims.{CutsSafely}
-use Rattle.mill_verify.specs.Files.{File as CutFile, IsFileOf}
+use Rattle.mill_verify.specs.Files.{File as CutFile, IsFileOf, job_of}
 use Rattle.mill_verify.specs.ListClaims.{FilesCutSafely}
 use Rattle.mill_verify.specs.Lists.{IsListVerdict}
+use Rattle.mill_verify.specs.Starts.{StartsSafely}
 use Rattle.mill_verify.specs.declared.list.ListVerdict.{ListVerdict}
 use Rattle.mill_verify.specs.declared.verdict.Verdict.TheVariants.{Accept, Reject}
 use Rattle.mill_verify.specs.declared.verdict.Reason.{Reason}
@@ -28,7 +32,7 @@ use Rattle.mill_load.specs.Places.{ReadsPlace, ReadsHeight}
 use Rattle.mill_run.specs.Outcomes.{ShowsHelp, RefusesWords}
 use Rattle.mill_run.specs.Plan.{plan_line}
 use Rattle.mill_run.specs.Rest.{rest_texts, AreRestTold, ReadsRest, IsFileNamed, list_status, list_line}
-use Rattle.mill_load.specs.Setup.{Fits, setup_texts, AreSetupTold, ReadsSetup}
+use Rattle.mill_load.specs.Setup.{Fits, setup_texts, AreSetupTold, ReadsJob, ReadsSetup}
 use Rattle.mill_run.specs.Stock.{stock_texts, AreStockTold, ReadsStock, stock_surface, drawn, stock_line}
 use Rattle.mill_answer.specs.Verify.{AcceptsSafely, texts_of, AreTold, Reads, Judges, verdict_line}
 use Rattle.mill_answer.specs.Verify.{Files}
@@ -49,7 +53,7 @@ abbrev pub Answers : List (List ℕ) → Call → Type 0
 Answers words call = (asked : Request) → request words ≡ Some asked → NoFault call → call.status ≢ 5 → Answered call asked
 
 -- where the files are told, hold what the reads gave and are read, the part isn't over the job's top and nothing of the outside failed, a program is accepted or rejected;
--- a plan is stored, or leaves stock uncut, or its holder would touch stock, or it is too large; a drop height is told; the chains at a height are told, or the lattice is too large; or memory was short;
+-- a plan is stored, or leaves stock uncut, or its holder would touch stock, or it is too large, or where the job asks for a spindle there is none; a drop height is told; the chains at a height are told, or the lattice is too large; or memory was short;
 -- where the job's and the program's file are told, hold what the reads gave and are read, and nothing of the outside failed, the stock is stored, or its surface is too large; or memory was short;
 -- where the files and the programs that the list names are told, hold what the reads gave and are read, the part isn't over the job's top and nothing of the outside failed, the programs are accepted or rejected; or memory was short;
 -- where nothing of the outside failed, a sample is planned, or its plan leaves stock uncut, or its holder would touch stock, or it is too large; or memory was short
@@ -57,8 +61,10 @@ pub record Completes (words : List (List ℕ)) (call : Call) : Type 0 where
   pub verifies : (files : Files) (contents : List ℕ → Option (List ℕ)) (job : JobFields) (part : List Tri) (moves : List Move) → AsksVerify words files → HoldsReads contents call
       → AreTold (texts_of contents files) → Reads (texts_of contents files) job part moves → NoFault call → (call.status ≡ 0) ⊎ ((call.status ≡ 3) ⊎ (call.status ≡ 5))
   pub plans : (files : PlanFiles) (contents : List ℕ → Option (List ℕ)) (job : JobFields) (part : List Tri) → AsksPlan words files → HoldsReads contents call
-      → AreSetupTold (setup_texts contents files.job files.part) → ReadsSetup (setup_texts contents files.job files.part) job part → NoFault call
+      → AreSetupTold (setup_texts contents files.job files.part) → ReadsSetup (setup_texts contents files.job files.part) job part → job.spindle ≡ false → NoFault call
       → (call.status ≡ 0) ⊎ ((call.status ≡ 8) ⊎ ((call.status ≡ 9) ⊎ (call.status ≡ 5)))
+  pub unfed : (files : PlanFiles) (contents : List ℕ → Option (List ℕ)) (job : JobFields) → AsksPlan words files → HoldsReads contents call → IsSome (contents files.job)
+      → ReadsJob (setup_texts contents files.job files.part) job → job.spindle ≡ true → NoFault call → (call.status ≡ 4) ⊎ (call.status ≡ 5)
   pub drops : (given : DropWords) (contents : List ℕ → Option (List ℕ)) (place : Place) (job : JobFields) (part : List Tri) → AsksDrop words given
       → ReadsPlace job.unit given.x given.y place → HoldsReads contents call → AreSetupTold (setup_texts contents given.job given.part)
       → ReadsSetup (setup_texts contents given.job given.part) job part → NoFault call → (call.status ≡ 0) ⊎ (call.status ≡ 5)
@@ -105,7 +111,8 @@ pub record RejectsFirst (call : Call) (files : Files) : Type 0 where
 -- when `verify` answers 0, wherever within the slack the machine's own tip is at each moment of each move: no part point lies deeper than the overcut in the cutter,
 -- nor a column point at or under the part; no rapid has a column point that may be left before it deeper than the graze in the cutter, and every column point that may
 -- be left at the end is covered by part or floor within allowance and band; where the job limits the depth of cut, no feed has a column point so deep under its top
--- deeper than the graze in the cutter; where it has a holder, no part point is strictly inside the holder, nor a column point that may be left before the move;
+-- deeper than the graze in the cutter; where it has a holder, no part point is strictly inside the holder, nor a column point that may be left before the move; no point of a fixture
+-- is strictly inside cutter or holder; and wherever the tip is before the program, the tool comes safely to where its moves begin;
 -- status 3 names exactly the first written test that fails
 pub record Headline (words : List (List ℕ)) (call : Call) : Type 0 where
   pub accepts : (files : Files) → AsksVerify words files → call.status ≡ 0 → AcceptsSafely call files
@@ -114,7 +121,8 @@ pub record Headline (words : List (List ℕ)) (call : Call) : Type 0 where
       → HoldsReads contents call → AreTold (texts_of contents files) → Reads (texts_of contents files) job part moves
       → IsRejection job part moves reason → NoFault call → call.status ≢ 5 → call.status ≡ 3
 
--- the file holds a text that `verify` accepts with the same job and part, whatever their files hold, if they hold what the reads gave; its moves are safe, and the line has its numbers
+-- the file holds a text that `verify` accepts with the same job and part, whatever their files hold, if they hold what the reads gave; its moves are safe, the tool comes safely
+-- to home, where they begin, from wherever its tip is, and the line has its numbers
 pub record StoresSafely (call : Call) (files : PlanFiles) : Type 0 where
   pub job : JobFields
   pub part : List Tri
@@ -125,6 +133,7 @@ pub record StoresSafely (call : Call) (files : PlanFiles) : Type 0 where
   pub stored : IsStored files.out text call.store call.store_after
   pub accepted : (contents : List ℕ → Option (List ℕ)) → HoldsReads contents call
       → Judges (record { setup = setup_texts contents files.job files.part; program = Some text }) job part moves (Accept (length moves) columns left)
+  pub start : StartsSafely job part (home job)
   pub safe : CutsSafely job part moves
   pub printed : IsWritten (plan_line job.unit (done text (length moves) columns left)) call.sink call.sink_after
 
@@ -150,7 +159,13 @@ pub record StoresStock (call : Call) (files : StockFiles) : Type 0 where
 abbrev pub StockHeadline : List (List ℕ) → Call → Type 0
 StockHeadline words call = (files : StockFiles) → AsksStock words files → call.status ≡ 0 → StoresStock call files
 
--- each file, if it holds what the reads gave, reads as this job, this part, these steps and these files, which are in their ranges, and the files cut safely in turn, each with its step's cutter
+-- the moves of a file follow on each other from a place to which the tool comes safely, with the file's cutter, from wherever its tip is
+pub record BeginsSafely (job : JobFields) (part : List Tri) (file : CutFile) : Type 0 where
+  pub from : Pt3
+  pub follow : Follow from file.moves
+  pub start : StartsSafely (job_of job file) part from
+
+-- each file, if it holds what the reads gave, reads as this job, this part, these steps and these files, which are in their ranges, and the files begin and cut safely in turn, each with its step's cutter
 pub record AcceptsFilesSafely (call : Call) (names : RestFiles) : Type 0 where
   pub job : JobFields
   pub part : List Tri
@@ -159,6 +174,7 @@ pub record AcceptsFilesSafely (call : Call) (names : RestFiles) : Type 0 where
   pub all_read : (contents : List ℕ → Option (List ℕ)) → HoldsReads contents call → ReadsRest (rest_texts contents names) job part steps files
   pub job_ok : IsJob job
   pub files_ok : All (IsFileOf job) files
+  pub starts : All (BeginsSafely job part) files
   pub safe : FilesCutSafely job part files
 
 -- each file, if it holds what the reads gave, reads as this job, this part, these steps and these files, which are in their ranges, the verdict on them is this rejection, and the line names it;

@@ -1,4 +1,4 @@
--- The command `level`: its word for a height, read in the job's unit, and the chains of points along which the tool goes round the part there.
+-- The command `level`: its word for a height, read in the job's unit, and the chains of points along which the tool goes round part and fixtures there.
 use Rattle.std.specs.Prelude.{◌≡◌, ◌≤◌, ℕ, ℤ, codes, decimal, Bool, if◌then◌else◌, List, [], ◌∷◌, ◌++◌, length}
 use Rattle.std.specs.List.{flat_map}
 use Rattle.mill_base.specs.Lattices.{node_count}
@@ -11,6 +11,7 @@ use Rattle.mill_decimal.specs.declared.fault.DecFault.{DecFault}
 use Rattle.mill_job.specs.declared.fields.JobFields.{JobFields}
 use Rattle.mill_job.specs.Jobs.{tool_of}
 use Rattle.mill_level.specs.Waterlines.{Outline, IsWaterline, HasManyNodes}
+use Rattle.mill_obstacles.specs.Faces.{obstacles_of}
 use Rattle.mill_paths.specs.Lattices.{finish_lattice}
 use Rattle.mill_answer.specs.Lines.{line}
 use Rattle.mill_load.specs.declared.place.Coordinate.{Coordinate}
@@ -40,10 +41,10 @@ pub data LevelAnswer : Type 0 where
   outlines : List Outline → LevelAnswer
   too_many_nodes : ℕ → LevelAnswer
 
--- the outlines are the part's waterline at the height, for the job's tool and over its area by steps of its raster, and that lattice has no more nodes than one may;
+-- the outlines are the waterline of part and fixtures at the height, for the job's tool and over its area by steps of its raster, and that lattice has no more nodes than one may;
 -- or it has so many nodes, which are too many
 abbrev pub IsLevelAnswer : JobFields → List Tri → ℤ → LevelAnswer → Type 0
-IsLevelAnswer job part height (outlines found) = IsWaterline (tool_of job) part height (finish_lattice job) found × (node_count (finish_lattice job) ≤ MAX_NODES)
+IsLevelAnswer job part height (outlines found) = IsWaterline (tool_of job) (obstacles_of job part) height (finish_lattice job) found × (node_count (finish_lattice job) ≤ MAX_NODES)
 IsLevelAnswer job part height (too_many_nodes nodes) = HasManyNodes (finish_lattice job) nodes
 
 -- job, word and part are read, and this is the answer at the height, in the job's unit

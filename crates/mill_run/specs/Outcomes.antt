@@ -11,8 +11,9 @@ use Rattle.mill_answer.specs.Calls.{Call, HoldsReads}
 use Rattle.mill_run.specs.Drop.{HasPlace}
 use Rattle.mill_answer.specs.Faults.{memory_line, read_fault_line}
 use Rattle.mill_run.specs.Level.{HasHeight}
+use Rattle.mill_run.specs.Plan.{NeedsNoFeed}
 use Rattle.mill_run.specs.Rest.{rest_texts, FailsAtStep, IsReadBeforeRest}
-use Rattle.mill_load.specs.Setup.{setup_texts, IsReadBefore, IsReadBeforeWith}
+use Rattle.mill_load.specs.Setup.{setup_texts, IsReadBeforeWith}
 use Rattle.mill_run.specs.Stock.{stock_texts, IsReadBeforeStock}
 use Rattle.mill_answer.specs.Verify.{texts_of, IsReadBeforeProgram}
 
@@ -50,7 +51,7 @@ outcome_file _ = None
 -- all that a command reads and checks before one of its files holds, by each file that is told; `sample` has none
 abbrev pub ReadsBefore : (List ℕ → Option (List ℕ)) → Request → File → Type 0
 ReadsBefore contents (verify job part program workers) file = IsReadBeforeProgram (texts_of contents (record { job = job; part = part; program = program })) file
-ReadsBefore contents (plan job part out workers) file = IsReadBefore (setup_texts contents job part) file
+ReadsBefore contents (plan job part out workers) file = IsReadBeforeWith (NeedsNoFeed (setup_texts contents job part)) file
 ReadsBefore contents (drop job part x y) file = IsReadBeforeWith (HasPlace (setup_texts contents job part) x y) file
 ReadsBefore contents (level job part z) file = IsReadBeforeWith (HasHeight (setup_texts contents job part) z) file
 ReadsBefore contents (stock job program out) file = IsReadBeforeStock (stock_texts contents job program) file

@@ -1,5 +1,5 @@
 -- The sample part of a size, and the job that it is planned with.
-use Rattle.std.specs.Prelude.{◌≡◌, ◌≤◌, ℕ, ◌+◌, ◌*◌, ◌%◌, pos, List, [], ◌∷◌, None}
+use Rattle.std.specs.Prelude.{◌≡◌, ◌≤◌, ℕ, ◌+◌, ◌*◌, ◌%◌, pos, List, [], ◌∷◌, None, false}
 use Rattle.std.specs.List.{flat_map, range_with_len}
 use Rattle.mill_base.specs.declared.cutter.Cutter.TheVariants.{Ball}
 use Rattle.mill_base.specs.declared.points.Pt3.{Pt3}
@@ -7,6 +7,7 @@ use Rattle.mill_base.specs.declared.points.Tri.{Tri}
 use Rattle.mill_base.specs.declared.unit.Unit.TheVariants.{Hundredth}
 use Rattle.mill_decimal.specs.declared.snap.Snap.TheVariants.{Nearest}
 use Rattle.mill_job.specs.declared.fields.JobFields.{JobFields}
+use Rattle.mill_job.specs.declared.habits.Start.TheVariants.{Home}
 use Rattle.mill_base.specs.Covers.{IsUnder}
 
 -- ---- the part
@@ -59,6 +60,9 @@ sample_job n = record {
   slack = pos 0;
   overcut = pos 0;
   graze = None;
+  keep_out = [];
+  start = Home;
+  spindle = false;
 }
 
 -- ---- both

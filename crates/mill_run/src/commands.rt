@@ -20,7 +20,7 @@ use crate::verify::verify_program;
 use mill_answer::{Status, tell, tell_memory};
 use mill_command::{Command, Refusal, read_words};
 use mill_io::{Shelf, Sink};
-use mill_verify::{one_list_verdict, one_verdict};
+use mill_verify::{one_list_verdict, one_verdict, start_is_safe};
 use std::alloc::Global;
 use std::thread::Threads;
 
@@ -81,10 +81,11 @@ pub fn run<R: Threads + Sync, S: Shelf, O: Sink>(
     ensures rest_headline { RestHeadline (map string_bytes words.now) (call_of result
         (S.shows shelf.old) (S.shows shelf.new) (O.shows out.old) (O.shows out.new)) }
 {
-    // Laws without code: there is at most one verdict, on a program and on a list of them. The last
-    // parts of the headlines of `verify` and `rest` rest on them.
+    // Laws without code: there is at most one verdict, on a program and on a list of them, and the
+    // tool comes safely to where a program's moves begin. Parts of the headlines rest on them.
     one_verdict();
     one_list_verdict();
+    start_is_safe();
     work(rt, alloc, words, shelf, out)
 }
 

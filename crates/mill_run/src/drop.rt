@@ -1,4 +1,4 @@
-//! The command `drop`: how low the tool comes at one place.
+//! The command `drop`: how low the tool comes at one place, over part and fixtures.
 ghost use Rattle.std.specs.Prelude.{◌≡◌, ◌-◌, ◌^◌, ◌<◌, IfOk};
 ghost use Rattle.mill_command.specs.Requests.{drop as asks_drop};
 ghost use Rattle.mill_answer.specs.Calls.{CanCount, call_of};
@@ -6,11 +6,12 @@ ghost use Rattle.mill_run.specs.Drop.{height_line};
 ghost use Rattle.mill_load.specs.Loads.{IsSetup};
 ghost use Rattle.mill_job.specs.Tables.{IsPlace};
 ghost use Rattle.mill_run.specs.Outcomes.{Serves};
-ghost use Rattle.mill_run.specs.inner.Prints.{PrintsHeight};
+ghost use Rattle.mill_run.specs.inner.Prints.{TriesHeight};
 ghost use Rattle.mill_answer.specs.Statuses.{status_code};
 
+use crate::keeping::kept_off;
 use mill_answer::Word::{Length, Text};
-use mill_answer::{Status, line_of, line_of_word_fault, tell_fault, tell_made};
+use mill_answer::{Status, line_of, line_of_word_fault, tell_fault, tell_made, tell_memory};
 use mill_base::{Unit, WantOfMemory};
 use mill_drop::drop_once;
 use mill_io::{Shelf, Sink};
@@ -42,22 +43,24 @@ pub fn drop_cutter<S: Shelf, O: Sink>(
         Err(fault) => return tell_made(line_of_word_fault(alloc, fault), Status::Refused, out),
     };
     match load_under(alloc, shelf, job, part) {
-        Ok(setup) => tell_drop(alloc, &setup, place, out),
+        Ok(setup) => tell_drop(alloc, setup, place, out),
         Err(fault) => tell_fault(alloc, fault, out),
     }
 }
 
-/// Prints the drop height at a place.
-fn tell_drop<O: Sink>(alloc: Global, setup: &Setup, place: Place, out: &mut O) -> Status
-    requires ready { IsSetup setup.now }
-    requires place_ok { IsPlace setup.now.job.fields.unit place }
+/// Prints the drop height at a place, or that there was no memory for what the tool keeps off.
+fn tell_drop<O: Sink>(alloc: Global, setup: Setup, place: Place, out: &mut O) -> Status
+    requires ready { IsSetup setup }
+    requires place_ok { IsPlace setup.job.fields.unit place }
     requires prints { (O.shows out.old).faults < 2 ^ 64 - 1 }
-    ensures { PrintsHeight setup.now place (status_code result)
-        (O.shows out.old) (O.shows out.new) }
+    ensures { TriesHeight setup place (status_code result) (O.shows out.old) (O.shows out.new) }
 {
-    let job = &setup.job;
+    let job = setup.job;
+    let Ok(all) = kept_off(alloc, &job, setup.part) else {
+        return tell_memory(out);
+    };
     let tool = job.tool();
-    let height = drop_once(&setup.part, &tool, place.x, place.y, job.fields.floor);
+    let height = drop_once(&all, &tool, place.x, place.y, job.fields.floor);
     tell_made(
         line_of_height(alloc, height, job.fields.unit),
         Status::Done,

@@ -1,4 +1,5 @@
-//! The command `level`: the chains of points along which the tool goes round the part at one height.
+//! The command `level`: the chains of points along which the tool goes round part and fixtures at
+//! one height.
 ghost use Rattle.std.specs.Prelude.{◌≡◌, ◌++◌, ◌-◌, ◌^◌, ◌<◌, ◌≤◌, ℕ, IfOk, IsErrOf, OnOk, map as map_list};
 ghost use Rattle.mill_base.specs.Numbers.{Within};
 ghost use Rattle.mill_base.specs.declared.limits.TheConstants.{MAX_COORDINATE, MAX_NODES};
@@ -7,6 +8,7 @@ ghost use Rattle.mill_command.specs.Requests.{level as asks_level};
 ghost use Rattle.mill_job.specs.Jobs.{tool_of};
 ghost use Rattle.mill_level.specs.Waterlines.{HasManyNodes, IsWaterline, seen};
 ghost use Rattle.mill_level.specs.declared.fault.LevelFault.TheVariants.{TooManyNodes};
+ghost use Rattle.mill_obstacles.specs.Faces.{obstacles_of};
 ghost use Rattle.mill_paths.specs.Lattices.{finish_lattice as finish_lattice_of};
 ghost use Rattle.mill_answer.specs.Calls.{CanCount, call_of};
 ghost use Rattle.mill_run.specs.Level.{closed_word, outline_text, outlines_text, point_line};
@@ -15,6 +17,7 @@ ghost use Rattle.mill_run.specs.Outcomes.{Serves};
 ghost use Rattle.mill_run.specs.inner.Prints.{TriesLevel};
 ghost use Rattle.mill_answer.specs.Statuses.{status_code};
 
+use crate::keeping::kept_off;
 use mill_answer::Word::{Length, Number, Text};
 use mill_answer::{
     Status, add_line, line_of_nodes, line_of_word_fault, tell_fault, tell_made, tell_memory,
@@ -72,18 +75,20 @@ fn tell_level<O: Sink>(alloc: Global, setup: Setup, height: i32, out: &mut O) ->
     }
 }
 
-/// The chains at a height, over the job's area by steps of its raster.
+/// The chains round part and fixtures at a height, over the job's area by steps of its raster.
 fn chains_at(alloc: Global, setup: Setup, height: i32) -> Result<Vec<Chain>, LevelFault>
     requires ready { IsSetup setup }
     requires height_ok { Within MAX_COORDINATE height }
-    ensures chains { IfOk result (λ chains. IsWaterline (tool_of setup.job.fields) setup.part height
+    ensures chains { IfOk result (λ chains. IsWaterline (tool_of setup.job.fields)
+        (obstacles_of setup.job.fields setup.part) height
         (finish_lattice_of setup.job.fields) (map_list seen chains.items)) }
     ensures few { IfOk result (λ _. node_count (finish_lattice_of setup.job.fields) ≤ MAX_NODES) }
     ensures nodes { (nodes : ℕ) → IsErrOf result (TooManyNodes nodes)
         → HasManyNodes (finish_lattice_of setup.job.fields) nodes }
 {
     let job = setup.job;
-    let part = SortedPart::new(alloc, setup.part)?;
+    let all = kept_off(alloc, &job, setup.part)?;
+    let part = SortedPart::new(alloc, all)?;
     let lattice = finish_lattice(&job);
     let tool = job.tool();
     waterline(alloc, &part, &tool, height, &lattice)

@@ -12,6 +12,7 @@
 mod commands;
 mod drop;
 mod ending;
+mod keeping;
 mod laws;
 mod level;
 mod plan;

@@ -1,11 +1,15 @@
 //! The command `plan`: a program that cuts the job's part, stored as a file.
-ghost use Rattle.std.specs.Prelude.{◌≡◌, ◌-◌, ◌^◌, ◌<◌, IfOk};
+ghost use Rattle.std.specs.Prelude.{◌≡◌, ℕ, ◌-◌, ◌^◌, ◌<◌, List, IfErr, IfOk, Option};
 ghost use Rattle.mill_command.specs.Requests.{plan as asks_plan};
+ghost use Rattle.mill_io.specs.Readings.{AreHeld};
 ghost use Rattle.mill_plan.specs.Plans.{answer_of};
 ghost use Rattle.mill_run.specs.Answers.{planned as planned_answer};
 ghost use Rattle.mill_answer.specs.Calls.{CanCount, call_of};
-ghost use Rattle.mill_run.specs.inner.Loads.{AreWorkers};
-ghost use Rattle.mill_load.specs.Loads.{IsSetup};
+ghost use Rattle.mill_run.specs.inner.Loads.{AreWorkers, CanBePlanned, LoadsFed, LoadsPlan};
+ghost use Rattle.mill_load.specs.Loads.{NamesFault, OnlyLoads};
+ghost use Rattle.mill_load.specs.Setup.{setup_texts};
+ghost use Rattle.mill_load.specs.declared.file.File.{File as AnyFile};
+ghost use Rattle.mill_load.specs.declared.file.File.TheVariants.{Job as JobFile, Part as PartFile};
 ghost use Rattle.mill_run.specs.Outcomes.{Serves, ShowsOr, answered};
 ghost use Rattle.mill_run.specs.Plan.{held_line, plan_line};
 ghost use Rattle.mill_run.specs.inner.Prints.{PrintsPlanFault, ShowsPlanOr};
@@ -18,15 +22,16 @@ use mill_answer::{
 use mill_base::{Unit, WantOfMemory};
 use mill_crew::Threaded;
 use mill_io::{Failed, Shelf, Sink, store};
-use mill_job::Job;
-use mill_load::{Setup, load_setup};
+use mill_job::{Job, JobFault, Key};
+use mill_load::{LoadFault, Setup, Unfit, load_job, load_under};
 use mill_part::SortedPart;
 use mill_plan::{PlanFault, Planned, plan};
 use std::alloc::Global;
 use std::thread::Threads;
 
 /// The work of `plan`: reads the job and the part, stores a program that cuts the part under `name`,
-/// and prints its numbers, or what keeps it from a program.
+/// and prints its numbers, or what keeps it from a program. There is none for a job that asks for a
+/// spindle.
 pub fn plan_program<R: Threads + Sync, S: Shelf, O: Sink>(
     rt: &R,
     alloc: Global,
@@ -42,10 +47,55 @@ pub fn plan_program<R: Threads + Sync, S: Shelf, O: Sink>(
     ensures { Serves (asks_plan job.now part.now name.now workers)
         (call_of result (S.shows shelf.old) (S.shows shelf.new) (O.shows out.old) (O.shows out.new)) }
 {
-    match load_setup(alloc, shelf, job, part) {
+    match load_plan(alloc, shelf, job, part) {
         Ok(setup) => tell_plan(rt, alloc, shelf, setup, name, workers, out),
         Err(fault) => tell_fault(alloc, fault, out),
     }
+}
+
+/// Reads the job and then the part. The first fault ends it. Between the job's own faults and those
+/// of the part comes the want of a feed, where the job asks for a spindle.
+fn load_plan<S: Shelf>(
+    alloc: Global,
+    shelf: &mut S,
+    job: &str,
+    part: &str,
+) -> Result<Setup, LoadFault>
+    ensures told { (contents : List ℕ → Option (List ℕ)) →
+        AreHeld contents (S.shows shelf.old).log (S.shows shelf.new).log →
+        LoadsPlan (setup_texts contents job.now part.now) result }
+    ensures ready { IfOk result CanBePlanned }
+    ensures failed { (names : AnyFile → List ℕ) →
+        names JobFile ≡ job.now → names PartFile ≡ part.now →
+        IfErr result (NamesFault names (S.shows shelf.new).log) }
+    ensures store { OnlyLoads (S.shows shelf.old) (S.shows shelf.new) result }
+{
+    match load_job(alloc, shelf, job) {
+        Ok(job) => load_fed(alloc, shelf, job, part),
+        Err(fault) => Err(fault),
+    }
+}
+
+/// Reads the part for a job that asks for no spindle. The programs of one that does have to name a
+/// feed, which no key of a job names yet: no plan is made for it.
+fn load_fed<S: Shelf>(
+    alloc: Global,
+    shelf: &mut S,
+    job: Job,
+    part: &str,
+) -> Result<Setup, LoadFault>
+    ensures told { (contents : List ℕ → Option (List ℕ)) →
+        AreHeld contents (S.shows shelf.old).log (S.shows shelf.new).log →
+        LoadsFed job.fields (contents part.now) result }
+    ensures ready { IfOk result CanBePlanned }
+    ensures failed { (names : AnyFile → List ℕ) → names PartFile ≡ part.now →
+        IfErr result (NamesFault names (S.shows shelf.new).log) }
+    ensures store { OnlyLoads (S.shows shelf.old) (S.shows shelf.new) result }
+{
+    if job.fields.spindle {
+        return Err(LoadFault::Unfit(Unfit::JobRefused(JobFault::Missing(Key::Feed))));
+    }
+    load_under(alloc, shelf, job, part)
 }
 
 /// Plans a program for what was read, stores it and prints its numbers, or what keeps it from one.
@@ -59,7 +109,7 @@ fn tell_plan<R: Threads + Sync, S: Shelf, O: Sink>(
     out: &mut O,
 ) -> Status
     requires workers { AreWorkers workers }
-    requires ready { IsSetup setup }
+    requires ready { CanBePlanned setup }
     requires counts { CanCount (S.shows shelf.old) (O.shows out.old) }
     ensures shown { ShowsPlanOr setup name.now
         (call_of result (S.shows shelf.old) (S.shows shelf.new) (O.shows out.old) (O.shows out.new)) }

@@ -1,5 +1,5 @@
 //! The command `sample`: the sample part of a size that is asked for, planned and verified.
-ghost use Rattle.std.specs.Prelude.{◌≡◌, ◌-◌, ◌^◌, ◌<◌, List, [], IfOk, Ok};
+ghost use Rattle.std.specs.Prelude.{◌≡◌, ◌-◌, ◌^◌, ◌<◌, false, List, [], IfOk, Ok};
 ghost use Rattle.mill_base.specs.Covers.{IsUnder};
 ghost use Rattle.mill_base.specs.declared.motion.Move.{Move as OneMove};
 ghost use Rattle.mill_command.specs.Requests.{sample as asks_sample};
@@ -9,6 +9,7 @@ ghost use Rattle.mill_ngc.specs.Programs.{program_of};
 ghost use Rattle.mill_plan.specs.Plans.{IsPlanAnswer, answer_of, done};
 ghost use Rattle.mill_answer.specs.Calls.{call_of};
 ghost use Rattle.mill_load.specs.Loads.{AreMoves};
+ghost use Rattle.mill_load.specs.Programs.{rules_of};
 ghost use Rattle.mill_run.specs.inner.Loads.{AreWorkers};
 ghost use Rattle.mill_run.specs.SamplePart.{IsSample, IsSize};
 ghost use Rattle.mill_run.specs.Outcomes.{Serves};
@@ -114,7 +115,8 @@ fn tell_planned<R: Threads + Sync, O: Sink>(
     }
 }
 
-/// The verdict on a program that was planned, as its text reads.
+/// The verdict on a program that was planned, as its text reads, for a job that asks for no
+/// spindle.
 fn verified<R: Threads + Sync>(
     rt: &R,
     alloc: Global,
@@ -124,6 +126,7 @@ fn verified<R: Threads + Sync>(
     workers: u32,
 ) -> Result<Verdict, WantOfMemory>
     requires under { IsUnder part.now job.now.fields.top }
+    requires still { job.now.fields.spindle ≡ false }
     requires planned_ok { IsPlanAnswer job.now.fields part.now (answer_of planned.now) }
     requires workers { AreWorkers workers }
     ensures { IfOk result (λ verdict.
@@ -137,8 +140,12 @@ fn verified<R: Threads + Sync>(
 
 /// The moves of a program's text, which has some.
 fn read_back(alloc: Global, job: &Job, program: &[u8]) -> Result<Vec<Move>, WantOfMemory>
-    requires { (moves : List OneMove) × (program_of (home job.now.fields) job.now.fields.unit program.now ≡ Ok moves) }
-    ensures told { IfOk result (λ moves. program_of (home job.now.fields) job.now.fields.unit program.now ≡ Ok moves.items) }
+    requires { (moves : List OneMove)
+        × (program_of (home job.now.fields) job.now.fields.unit (rules_of job.now.fields)
+        program.now ≡ Ok moves) }
+    ensures told { IfOk result (λ moves.
+        program_of (home job.now.fields) job.now.fields.unit (rules_of job.now.fields)
+        program.now ≡ Ok moves.items) }
     ensures ready { IfOk result (λ moves. AreMoves job.now.fields moves.items) }
 {
     match read_moves(alloc, program, job) {

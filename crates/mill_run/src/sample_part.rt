@@ -4,7 +4,7 @@ ghost use Rattle.mill_run.specs.SamplePart.{IsSample, IsSize, sample_job as job_
 
 use mill_base::{Box2, Cutter, Pt3, Tri, Unit, WantOfMemory};
 use mill_decimal::Snap;
-use mill_job::{Job, JobFields, Levels, Place};
+use mill_job::{Fixtures, Job, JobFields, Levels, Place, Start};
 use mill_load::Setup;
 use mill_part::Part;
 use std::alloc::Global;
@@ -24,7 +24,7 @@ pub fn sample_setup(alloc: Global, size: u32) -> Result<Setup, WantOfMemory>
 }
 
 /// The job over the sample part of a size.
-#[tactic(auto, unfolding(mill_job::specs::Jobs::HasRoom, mill_job::specs::Jobs::HolderHasRoom, mill_job::specs::Slack::graze_of))]
+#[tactic(auto, unfolding(mill_job::specs::Fixtures::AreFixtures, mill_job::specs::Jobs::HasRoom, mill_job::specs::Jobs::HolderHasRoom, mill_job::specs::Slack::graze_of))]
 fn sample_job(size: u32) -> Job
     requires { IsSize size }
     ensures { result.fields ≡ job_of size }
@@ -68,6 +68,9 @@ fn sample_fields(size: u32) -> JobFields
         slack: 0,
         overcut: 0,
         graze: None,
+        keep_out: Fixtures::NONE,
+        start: Start::Home,
+        spindle: false,
     }
 }
 

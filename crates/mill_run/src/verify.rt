@@ -1,12 +1,10 @@
 //! The command `verify`: the verdict on a program.
 ghost use Rattle.std.specs.Prelude.{◌≡◌, ℕ, ◌-◌, ◌^◌, ◌<◌, ◌≤◌, ℤ, List, length, Ok, Option, IfErr, IfOk};
 ghost use Rattle.mill_base.specs.Covers.{IsUnder};
-ghost use Rattle.mill_base.specs.Motion.{Follow};
 ghost use Rattle.mill_base.specs.Ranges.{MovesInRange};
 ghost use Rattle.mill_base.specs.declared.limits.TheConstants.{MAX_MOVES};
 ghost use Rattle.mill_dexel.specs.Tops.{uncut};
 ghost use Rattle.mill_io.specs.Readings.{AreHeld};
-ghost use Rattle.mill_job.specs.Columns.{home};
 ghost use Rattle.mill_verify.specs.Claims.{CutsSafely};
 ghost use Rattle.mill_verify.specs.Verdicts.{IsVerdict, NamesLeaf};
 ghost use Rattle.mill_verify.specs.declared.verdict.Reason.{Reason as Why};
@@ -130,7 +128,6 @@ pub(crate) fn verdict_on<R: Threads + Sync>(
 ) -> Result<Verdict, WantOfMemory>
     requires moves_ok { MovesInRange moves.now }
     requires under { IsUnder part.now job.now.fields.top }
-    requires follow { Follow (home job.now.fields) moves.now }
     requires few { length moves.now ≤ MAX_MOVES }
     ensures verdict { IfOk result (IsVerdict job.now.fields part.now moves.now) }
     ensures safe { (count columns : ℕ) (left : ℤ)

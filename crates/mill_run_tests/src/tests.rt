@@ -1,13 +1,13 @@
 // The program over files and output in memory: what it prints, how it ends and what it stores.
 //
-// Each table is one text: the proof of a test then costs the same however many rows there are. A row
-// is a line with a command's words, and behind `=>` the status and what is printed, but for its last
-// line's end. In a row `\n` is a line's end. A text between `<` and `>` in the place of the last word
-// becomes the file `program`; it may have several parts, with ` + ` between them, and a part may stand
-// there so many times, as in `3 * M2`.
+// Each table is one text: the proof of a test then costs the same however many rows there are. A
+// row is a line with a command's words, and behind `=>` the status and what is printed, but for its
+// last line's end. In a row `\n` is a line's end. A text between `<` and `>` in the place of the
+// last word becomes the file `program`; it may have several parts, with ` + ` between them, and a
+// part may stand there so many times, as in `3 * M2`.
 //
-// A row is looked at by a function of its own, and functions with a loop do nothing else: the proof of
-// a test costs the more, the more values are alive beside a loop and a `?`.
+// A row is looked at by a function of its own, and functions with a loop do nothing else: the proof
+// of a test costs the more, the more values are alive beside a loop and a `?`.
 ghost use Rattle.std.specs.Prelude.{◌≡◌, IfOk};
 ghost use Rattle.mill_answer.specs.Calls.{CanCount};
 
@@ -36,10 +36,10 @@ mod untaken;
 mod verdicts;
 
 /// The files of every store: behind `#` a name, and then the text. `groove` is two plates, with a
-/// groove between them that is one unit narrower than the cutter of `groove-job`; `peak` is the point
-/// (0, 0, 3), and `wall` the line from (2, -1, 3) to (2, 3, 3); `planned` is what is planned for `job` and
-/// `plate`, and `stocked` what `down` leaves of the stock of `job`. The list `two` cuts with a ball and
-/// then with a flat cutter.
+/// groove between them that is one unit narrower than the cutter of `groove-job`; `peak` is the
+/// point (0, 0, 3), and `wall` the line from (2, -1, 3) to (2, 3, 3); `planned` is what is planned
+/// for `job` and `plate`, and `stocked` what `down` leaves of the stock of `job`. The list `two`
+/// cuts with a ball and then with a flat cutter.
 const FILES: &str = r#"# job
 cutter = "flat"
 radius = 150
@@ -256,10 +256,12 @@ before
 "#;
 
 /// More files, made of FILES: `NAME: OF: OLD -> NEW; OLD -> NEW`. `thousandths` is the same as
-/// `job`; the numbers of `tenth` are those of `job`, in thousandths, for `low-plate`, which is 0.2 mm
-/// high. `narrow` ends 0.50 before the last columns. A `held` and a `slim` job have a holder, as far
-/// over the tip as their name says. A `plate-ball` is `job` with a ball, which may leave as much as
-/// its name says.
+/// `job`; the numbers of `tenth` are those of `job`, in thousandths, for `low-plate`, which is 0.2
+/// mm high. `narrow` ends 0.50 before the last columns. A `held` and a `slim` job have a holder, as
+/// far over the tip as their name says. A `plate-ball` is `job` with a ball, which may leave as
+/// much as its name says. `turning` asks for a spindle, and the programs of `loose` start anywhere.
+/// Something stands beside the plate of `clamped`, in the middle of `vice`, and at two places of
+/// `boxed`.
 const MADE: &str = r#"thousandths: job: cutter -> unit = "thousandth"\ncutter; 00 -> 000; 50 -> 500
 tenth: job: cutter -> unit = "thousandth"\ncutter
 low-plate: plate:  2\n ->  0.2\n
@@ -282,6 +284,14 @@ held-none: job: band = 0 -> band = 0\nholder_radius = 200
 held-thin: job: band = 0 -> band = 0\nholder_radius = 150\nstickout = 1
 slim-99: job: 150 -> 60; [0, 0, 200 -> [0, 0, 300; pitch = 100 -> pitch = 50; allowance = 0 -> allowance = 300; band = 0 -> band = 0\nholder_radius = 120\nstickout = 99
 slim-100: job: 150 -> 60; [0, 0, 200 -> [0, 0, 300; pitch = 100 -> pitch = 50; allowance = 0 -> allowance = 200; band = 0 -> band = 0\nlayer = 100\nholder_radius = 120\nstickout = 100
+turning: job: band = 0 -> band = 0\nspindle = true
+loose: job: band = 0 -> band = 0\nstart = "anywhere"
+loose-planned: planned: G90 -> G90\nG0 Z4.00\nG0 X1.00 Y1.00
+clamped: job: band = 0 -> band = 0\nkeep_out = [[340, -100, 500, 100, 350]]
+clamped-planned: planned: Z2.00\nG1 X2.00 Y0.00 Z2.00\nG1 X2.00 Y1.00 Z2.00\n -> Z2.00\n
+vice: wide: band = 0 -> band = 0\nkeep_out = [[450, 450, 550, 550, 220]]
+boxed: wide: clear = 400 -> clear = 450\nkeep_out = [[150, -100, 250, 100, 220], [300, -20, 300, 20, 400]]
+dot: peak: 0 0 3 -> 0.4 0 0.5
 ball: wide: flat -> ball
 groove-job: wide: top = 400 -> top = 300; allowance = 50 -> allowance = 0
 fine: wide: top = 400 -> top = 300; 1000 -> 2000; band = 0 -> band = 0\nraster = 1
@@ -370,8 +380,8 @@ fn files(alloc: Global, program: &[u8]) -> Result<Vec<MemFile>, Fail> {
     Ok(files)
 }
 
-/// What the outside allows: the store's file that can be written, its room, and the store's calls that
-/// fail; the sink's room, and the sink's calls that fail. Here no call fails.
+/// What the outside allows: the store's file that can be written, its room, and the store's calls
+/// that fail; the sink's room, and the sink's calls that fail. Here no call fails.
 const SOUND: &str = "out 1000, 200";
 
 /// A room, and the numbers of the calls that fail.
@@ -397,7 +407,8 @@ fn sink(alloc: Global, allowed: &str) -> Result<MemSink, Fail>
     Ok(MemSink::new(alloc, room, &fails)?)
 }
 
-/// The status of a call. What else its contract says isn't needed here, and is met in this place alone.
+/// The status of a call. What else its contract says isn't needed here, and is met in this place
+/// alone.
 fn code_of<R: Threads + Sync>(
     rt: &R,
     alloc: Global,
@@ -507,15 +518,16 @@ fn each_says<R: Threads + Sync + Abort>(rt: &R, alloc: Global, table: &str) -> R
     Ok(())
 }
 
-/// What a row that stores a text should tell, and the text that OUT should hold: that of another file.
+/// What a row that stores a text should tell, and the text that OUT should hold: that of another
+/// file.
 fn stored_as(alloc: Global, ended: &mut Ended, rest: &str) -> Result<String, Fail> {
     let (says, file) = rest.split_once(" => ").ok_or("a row without a file")?;
     let text = held(alloc, &mut ended.shelf, file)?;
     Ok(format!(in alloc; "0 {says}\n|{text}")?)
 }
 
-/// Looks at a row with a command whose last word is OUT, which may be written; with what it tells, and with
-/// the file whose text OUT holds then.
+/// Looks at a row with a command whose last word is OUT, which may be written; with what it tells,
+/// and with the file whose text OUT holds then.
 fn look_at_stored<R: Threads + Sync + Abort>(rt: &R, alloc: Global, row: &str) -> Result<(), Fail> {
     let (command, rest) = halves(row)?;
     let (_, out) = command.rsplit_once(' ').ok_or("a row without OUT")?;

@@ -6,13 +6,13 @@
 use crate::tables::{same, text_of_row};
 use mill_base::{Box2, Cutter, Pt3, Solid, Tool, Unit};
 use mill_decimal::Snap;
-use mill_job::{JobFault, JobFields, Key, Levels, Name, Place, read_job};
+use mill_job::{Fixtures, JobFault, JobFields, Key, Levels, Name, Place, Start, read_job};
 use mill_tables::halves;
 use std::alloc::Global;
 use std::process::Abort;
 use std::test::Fail;
 
-const EXAMPLE: &str = "cutter = \"flat\"
+pub(crate) const EXAMPLE: &str = "cutter = \"flat\"
 radius = 150
 floor = 0
 top = 300
@@ -83,14 +83,19 @@ const JOB: JobFields = JobFields {
     slack: 0,
     overcut: 0,
     graze: None,
+    keep_out: Fixtures::NONE,
+    start: Start::Home,
+    spindle: false,
 };
 
-/// What is said of a text: the job as it is, and its levels, or its fault.
-fn answer(alloc: Global, text: &str) -> Result<String, Fail> {
+/// What is said of a text: the job as it is, its levels and its fixtures, or its fault.
+pub(crate) fn answer(alloc: Global, text: &str) -> Result<String, Fail> {
     match read_job(alloc, text.as_bytes()) {
         Ok(job) => {
             let fields = job.fields;
-            Ok(format!(in alloc; "{fields:?} with levels {:?}", fields.levels.as_slice())?)
+            let levels = fields.levels.as_slice();
+            let boxes = fields.keep_out.as_slice();
+            Ok(format!(in alloc; "{fields:?} with levels {levels:?} and fixtures {boxes:?}")?)
         }
         Err(fault) => Ok(format!(in alloc; "{fault}")?),
     }
@@ -102,7 +107,12 @@ fn is_refused<R: Abort>(rt: &R, alloc: Global, from: &str, row: &str) -> Result<
     Ok(())
 }
 
-fn each_is_refused<R: Abort>(rt: &R, alloc: Global, from: &str, table: &str) -> Result<(), Fail> {
+pub(crate) fn each_is_refused<R: Abort>(
+    rt: &R,
+    alloc: Global,
+    from: &str,
+    table: &str,
+) -> Result<(), Fail> {
     for row in table.lines() {
         is_refused(rt, alloc, from, row)?;
     }
@@ -117,7 +127,12 @@ fn is_read<R: Abort>(rt: &R, alloc: Global, from: &str, row: &str) -> Result<(),
     Ok(())
 }
 
-fn each_is_read<R: Abort>(rt: &R, alloc: Global, from: &str, table: &str) -> Result<(), Fail> {
+pub(crate) fn each_is_read<R: Abort>(
+    rt: &R,
+    alloc: Global,
+    from: &str,
+    table: &str,
+) -> Result<(), Fail> {
     for row in table.lines() {
         is_read(rt, alloc, from, row)?;
     }
@@ -170,16 +185,16 @@ band = 0 => band = 0\nmax_cut = 131071 => snap: Nearest, max_cut: 131071
 band = 0 => band = 0\nmax_cut = 0 => snap: Nearest, max_cut: 0
 band = 0 => band = 0\nstickout = 131071\nholder_radius = 151 => holder: Some(Solid { cutter: Flat { radius: 151 }, lift: 131071 })
 band = 0 => band = 0\nholder_radius = 10000\nstickout = 1 => holder: Some(Solid { cutter: Flat { radius: 10000 }, lift: 1 })
-band = 0 => band = 0\nmax_cut = 0 => path_tol: None, slack: 0, overcut: 0, graze: None }
+band = 0 => band = 0\nmax_cut = 0 => path_tol: None, slack: 0, overcut: 0, graze: None
 band = 0 => band = 0\npath_tol = 0 => holder: None, path_tol: Some(0), slack: 0
 band = 0 => band = 0\npath_tol = 10000 => holder: None, path_tol: Some(10000), slack: 0
-band = 0 => band = 0\nslack = 0\novercut = 0\ngraze = 0 => slack: 0, overcut: 0, graze: Some(0) }
-band = 0 => band = 0\nslack = 72 => slack: 72, overcut: 0, graze: None }
-band = 0 => band = 0\novercut = 149 => slack: 0, overcut: 149, graze: None }
-band = 0 => band = 0\ngraze = 149 => slack: 0, overcut: 0, graze: Some(149) }
-band = 0 => band = 0\nslack = 10\ngraze = 20 => slack: 10, overcut: 0, graze: Some(20) }
-"flat" => "cone"\nrise = 4\nrun = 3\nslack = 2\ngraze = 5 => slack: 2, overcut: 0, graze: Some(5) }
-"flat" => "cone"\nrise = 4\nrun = 3\nslack = 60 => slack: 60, overcut: 0, graze: None }
+band = 0 => band = 0\nslack = 0\novercut = 0\ngraze = 0 => slack: 0, overcut: 0, graze: Some(0)
+band = 0 => band = 0\nslack = 72 => slack: 72, overcut: 0, graze: None
+band = 0 => band = 0\novercut = 149 => slack: 0, overcut: 149, graze: None
+band = 0 => band = 0\ngraze = 149 => slack: 0, overcut: 0, graze: Some(149)
+band = 0 => band = 0\nslack = 10\ngraze = 20 => slack: 10, overcut: 0, graze: Some(20)
+"flat" => "cone"\nrise = 4\nrun = 3\nslack = 2\ngraze = 5 => slack: 2, overcut: 0, graze: Some(5)
+"flat" => "cone"\nrise = 4\nrun = 3\nslack = 60 => slack: 60, overcut: 0, graze: None
 band = 0 => band = 0\nholder_radius = 151\nstickout = 51\nslack = 50 => slack: 50, overcut: 0
 band = 0 => band = 0\nlevels = [] => with levels []
 band = 0 => band = 0\nlevels = [0] => with levels [0]
@@ -304,10 +319,10 @@ band = 0
 slack = 200
 ";
 
-const LOOSE_READ: &str = r#"slack = 200 => slack = 200 => slack: 200, overcut: 0, graze: None }
-slack = 200 => slack = 200\novercut = 500\ngraze = 500 => overcut: 500, graze: Some(500) }
-slack = 200 => slack = 200\ngraze = 400 => slack: 200, overcut: 0, graze: Some(400) }
-9800 => 406 => slack: 200, overcut: 0, graze: None }
+const LOOSE_READ: &str = r#"slack = 200 => slack = 200 => slack: 200, overcut: 0, graze: None
+slack = 200 => slack = 200\novercut = 500\ngraze = 500 => overcut: 500, graze: Some(500)
+slack = 200 => slack = 200\ngraze = 400 => slack: 200, overcut: 0, graze: Some(400)
+9800 => 406 => slack: 200, overcut: 0, graze: None
 9800 => 406\nholder_radius = 9800\nstickout = 201 => Flat { radius: 9800 }, lift: 201 })"#;
 
 const LOOSE_REFUSED: &str = r#"9800 => 9801 => slack doesn't fit radius

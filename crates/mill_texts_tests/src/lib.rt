@@ -17,4 +17,6 @@ mod job;
 #[cfg(test)]
 mod list;
 #[cfg(test)]
+mod machine;
+#[cfg(test)]
 mod tables;

@@ -23,7 +23,7 @@ holder_radius = 160
 stickout = 50
 ";
 
-/// A job with a slack, an overcut and a graze, in which there is no band.
+/// A job with a slack, an overcut, a graze and a fixture, in which there is no band.
 const LOOSE: &str = "cutter = \"flat\"
 radius = 150
 floor = 0
@@ -40,6 +40,7 @@ stickout = 50
 slack = 20
 overcut = 30
 graze = 40
+keep_out = [[500, 0, 600, 200, 375]]
 ";
 
 const EXAMPLE: &str =
@@ -149,6 +150,7 @@ const LOOSE_ROWS: &str =
 150 => 30 => overcut doesn't fit radius
 150 => 40 => graze doesn't fit radius
 rise = 16, run = 1 => rise = 4, run = 3 => graze doesn't fit slack
+rise = 16, run = 1 => rise = 12, run = 5 => keep_out doesn't fit clear
 steps => steps => slack doesn't fit clear"#;
 
 fn loose_row_is_answered<R: Abort>(rt: &R, alloc: Global, row: &str) -> Result<(), Fail> {

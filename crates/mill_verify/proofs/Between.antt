@@ -1,35 +1,32 @@
 -- A tool between what is removed for sure and what may be touched leaves less than the one, and touches no more than the other.
-use Rattle.std.specs.Prelude.{◌≡◌, ℕ, ◌<◌, ℤ, pos, ◌+ℤ◌, ◌-ℤ◌, ◌≤ℤ◌, List, Contains, length, take}
+use Rattle.std.specs.Prelude.{◌≡◌, ℕ, ℤ, pos, ◌+ℤ◌, ◌-ℤ◌, List, take}
 use Rattle.std.proofs.Common.{refl, subst, arith}
 use Rattle.std.proofs.lemmas.Int.{ints}
-use Rattle.mill_base.specs.Motion.{IsMoment, tip_at}
-use Rattle.mill_base.specs.Points.{IsPointOf}
+use Rattle.mill_base.specs.Motion.{tip_at}
 use Rattle.mill_base.specs.Solids.{Solid, SolidHolds, at_tip}
 use Rattle.mill_base.specs.Ranges.{MovesInRange}
 use Rattle.mill_base.specs.declared.cutter.Cutter.{Cutter}
 use Rattle.mill_base.specs.declared.cutter.Cutter.TheVariants.{Flat, Ball, Cone}
 use Rattle.mill_base.specs.declared.motion.Kind.TheVariants.{Rapid}
 use Rattle.mill_base.specs.declared.motion.Move.{Move}
-use Rattle.mill_base.specs.declared.points.Pt3.{Pt3}
 use Rattle.mill_base.specs.declared.points.Tri.{Tri}
 use Rattle.mill_margin.specs.Margins.{cone_offset_of, grown, shrunk}
 use Rattle.mill_job.specs.Columns.{column_x, column_y}
 use Rattle.mill_job.specs.Jobs.{IsJob}
 use Rattle.mill_job.specs.Slack.{graze_of}
-use Rattle.mill_job.specs.Solids.{deeper_in, inner_of, outer_of, part_solid_of, stock_solid_of}
+use Rattle.mill_job.specs.Solids.{deeper_in, outer_of, part_solid_of, stock_solid_of}
 use Rattle.mill_job.specs.declared.fields.JobFields.{JobFields}
-use Rattle.mill_job.proofs.SolidFacts.{part_solid_ok, stock_solid_ok}
+use Rattle.mill_job.proofs.SolidFacts.{outer_ok, part_solid_ok, stock_solid_ok}
 use Rattle.mill_part.proofs.Below.{covered_below}
 use Rattle.mill_sweep.proofs.Solids.{passing_is_clear, passing_keeps_point}
-use Rattle.mill_dexel.specs.Removed.{IsRemovedBy}
 use Rattle.mill_dexel.specs.Tops.{stock_after, uncut}
 use Rattle.mill_dexel.specs.Turns.{move_at}
 use Rattle.mill_dexel.proofs.Removal.{over_top_is_removed}
-use Rattle.mill_verify.specs.Between.{BetweenIsSafe, CutsSafelyWith, IsTakenBy, LeavesWith, LiesBetween, Shape}
-use Rattle.mill_verify.specs.Claims.{IsColumnPoint, LeavesPoint, column_point, left_before}
+use Rattle.mill_verify.specs.Between.{BetweenIsSafe, CutsSafelyWith, LeavesWith, LiesBetween, Shape}
+use Rattle.mill_verify.specs.Claims.{LeavesPoint, column_point}
 use Rattle.mill_verify.specs.Verdicts.{AcceptsOn}
 use Rattle.mill_verify.proofs.Depths.{clears_as}
-use Rattle.mill_verify.proofs.Safe.{are_covered, in_range, met_under, misses_part, top_ok, under_top, uncut_ok}
+use Rattle.mill_verify.proofs.Safe.{are_covered, in_range, met_under, misses_fixtures, misses_part, top_ok, under_top, uncut_ok}
 
 abbrev solid_with : Cutter → ℤ → Solid
 solid_with cutter lift = record { cutter = cutter; lift = lift }
@@ -74,6 +71,9 @@ module _ (job : JobFields) (part : List Tri) (moves : List Move) (tool : Shape) 
         (subst (λ (s : Solid). SolidHolds s n (tip_at (move_at moves k) a n) (pos 1) (column_point job j i h)) (deeper_is job.cutter (graze_of job) job.slack) deeper);
     covered = λ j i h point left. are_covered covered_below job part (stock_after job (uncut job) moves) (LeavesPoint job moves) (under_top job part moves ok all_ok over_top_is_removed moves all_ok) accepts.cut j i h point
         (may_leave moves j i h left);
+    fixtures = λ m a n fixture q p member moment there point inside.
+        misses_fixtures job part (uncut job) moves ok (uncut_ok job part moves ok all_ok) all_ok passing_is_clear (outer_of job) (outer_ok job ok) (λ k hk. (accepts.good k hk).fixtures) m a n fixture q p
+        member moment there point (between.outer n (tip_at m a n) q p inside);
   }
 
 pub between_is_safe : BetweenIsSafe

@@ -1,8 +1,8 @@
 -- The height at which a move is tested at a column: from the floor to the top, and at most the greatest depth of cut under that.
-use Rattle.std.specs.Prelude.{◌≡◌, ℕ, ℤ, pos, ◌-ℤ◌, ◌<ℤ◌, ◌≤ℤ◌, List, cond, int_lt, Bool, true, false, refl}
+use Rattle.std.specs.Prelude.{◌≡◌, ℕ, ℤ, pos, ◌-ℤ◌, ◌<ℤ◌, ◌≤ℤ◌, List}
 use Rattle.std.proofs.Common.{sym, subst, arith}
 use Rattle.std.proofs.lemmas.Int.{ints}
-use Rattle.mill_base.specs.Numbers.{Within, greater}
+use Rattle.mill_base.specs.Numbers.{Within}
 use Rattle.mill_base.proofs.Extremes.{greater_left, greater_right, greater_least}
 use Rattle.mill_base.specs.declared.limits.TheConstants.{MAX_COORDINATE}
 use Rattle.mill_base.specs.declared.motion.Kind.{Kind}

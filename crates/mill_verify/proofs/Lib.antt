@@ -9,6 +9,10 @@ mod Most
 mod Remaining
 mod Stored
 pub mod Unique
+mod FaceCerts
+mod Faces
+mod Hits
+pub mod Obstacles
 mod Safe
 mod Plain
 mod Between
@@ -19,6 +23,8 @@ mod Gathered
 mod Failed
 mod SameTests
 mod Starts
+mod StartCerts
+mod Coming
 mod Filed
 mod Counted
 mod SafeFiles

@@ -1,5 +1,5 @@
 -- Without a slack the real tip is the program's, and without overcut and graze the cutter's core is the cutter.
-use Rattle.std.specs.Prelude.{◌≡◌, ℕ, ◌+◌, ◌<◌, ℤ, pos, ◌-ℤ◌, ◌*ℤ◌, ◌<ℤ◌, ◌≤ℤ◌, List, Contains, length, take, Option, Some, None, IfSome}
+use Rattle.std.specs.Prelude.{◌≡◌, ℕ, ◌<◌, ℤ, pos, ◌-ℤ◌, ◌*ℤ◌, ◌<ℤ◌, ◌≤ℤ◌, List, Contains, length, take, Option, Some, None, IfSome}
 use Rattle.std.proofs.Common.{◌∙◌, refl, ap, sym, subst, arith}
 use Rattle.std.proofs.lemmas.Int.{ints}
 use lib.IntN.{*ℤ_comm}
@@ -23,8 +23,9 @@ use Rattle.mill_margin.specs.Margins.{IsWithin, shrunk}
 use Rattle.mill_dexel.specs.Removed.{IsRemovedBy, SolidRemoves}
 use Rattle.mill_dexel.specs.Tops.{uncut}
 use Rattle.mill_dexel.specs.Turns.{move_at}
-use Rattle.mill_verify.specs.Claims.{CutsSafely, HolderStaysClear, IsColumnPoint, IsRealTip, LeavesPoint, column_point, core, left_before}
-use Rattle.mill_verify.specs.Plain.{CutsNoDeeper, CutsPlainly, HolderTouchesNothing, IsPlain, PlainIsPlain, StaysLeft}
+use Rattle.mill_verify.proofs.Mounted.{each_some}
+use Rattle.mill_verify.specs.Claims.{CutsSafely, HolderStaysClear, KeepsOff, IsColumnPoint, IsRealTip, LeavesPoint, column_point, core, left_before}
+use Rattle.mill_verify.specs.Plain.{CutsNoDeeper, CutsPlainly, HolderTouchesNothing, IsPlain, PlainIsPlain, StaysLeft, StaysOff}
 
 -- a point is at no distance from itself
 no_way : (n a : ℤ) → square ((n *ℤ a) -ℤ (n *ℤ a)) ≡ pos 0
@@ -106,6 +107,9 @@ module _ (job : JobFields) (plain : IsPlain job) where
           clear.misses_stock k j i h n (tip_at (move_at moves k) a n) there point (left_too (take k moves) j i h left) (tip_is (move_at moves k) a n moment);
     }
 
+    off : (solid : Solid) → KeepsOff solid job moves → StaysOff solid job moves
+    off solid keeps m a n member moment hit = keeps m n (tip_at m a n) member (tip_is m a n moment) hit
+
     cuts_plainly : CutsPlainly job part moves
     cuts_plainly = record {
       gouges = gouges;
@@ -114,6 +118,7 @@ module _ (job : JobFields) (plain : IsPlain job) where
       kept = kept;
       depth = depth;
       holder = holder job.holder safe.holder;
+      fixtures = record { cutter = off (at_tip job.cutter) safe.fixtures.cutter; holder = each_some (λ (v : Solid). KeepsOff v job moves) (λ (v : Solid). StaysOff v job moves) job.holder off safe.fixtures.holder };
     }
 
 pub plain_is_plain : PlainIsPlain

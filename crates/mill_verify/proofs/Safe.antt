@@ -13,7 +13,7 @@ use Rattle.mill_base.specs.declared.motion.Kind.{Kind}
 use Rattle.mill_base.specs.declared.motion.Kind.TheVariants.{Rapid}
 use Rattle.mill_base.specs.Numbers.{square}
 use Rattle.mill_base.specs.Motion.{IsMoment, tip_at}
-use Rattle.mill_base.specs.Solids.{IsSolid, Solid, SolidGouges, SolidHolds, solid_tip}
+use Rattle.mill_base.specs.Solids.{IsSolid, Solid, SolidGouges, SolidHolds, at_tip, solid_tip}
 use Rattle.mill_base.specs.Sizes.{IsCutter}
 use Rattle.mill_base.specs.Contact.{Holds, HoldsOver}
 use Rattle.mill_base.specs.Covers.{CoveredBelow, HasPointOver}
@@ -28,8 +28,12 @@ use Rattle.mill_job.specs.Jobs.{IsJob}
 use Rattle.mill_job.specs.Slack.{graze_of}
 use Rattle.mill_job.specs.Solids.{held_with, holder_solid_of, part_solid_of, stock_solid_of}
 use Rattle.mill_job.specs.Columns.{IsColumn, column_x, column_y}
-use Rattle.mill_job.proofs.SolidFacts.{graze_core_ok, holder_solid_ok, overcut_core_ok, part_solid_ok, stock_solid_ok}
+use Rattle.mill_job.proofs.SolidFacts.{graze_core_ok, holder_solid_ok, outer_ok, overcut_core_ok, part_solid_ok, stock_solid_ok}
 use Rattle.mill_gouge.specs.Gouges.{PassesPart}
+use Rattle.mill_job.specs.declared.fixtures.Fixture.{Fixture}
+use Rattle.mill_obstacles.specs.Faces.{first_half, second_half}
+use Rattle.mill_verify.specs.Fixtures.{PassesFixture, PassesFixtures, fixture_at}
+use Rattle.mill_verify.proofs.Faces.{touches_face}
 use Rattle.mill_dexel.specs.Stocks.{IsStockOf}
 use Rattle.mill_dexel.specs.Tops.{Stock, stock_after, tested_height, tested_point_on, top_after_move, top_on, top_point_on, uncut}
 use Rattle.mill_dexel.specs.Laws.{OverTopIsRemoved, PassedIsLeft}
@@ -43,7 +47,7 @@ use Rattle.mill_verify.specs.Tests.{GoodBeforeOn, IsCutOn, PassesColumnOn, stock
 use Rattle.mill_dexel.specs.Turns.{move_at}
 use Rattle.mill_base.specs.Points.{point_at, tri_at}
 use Rattle.mill_verify.specs.Verdicts.{AcceptsOn}
-use Rattle.mill_verify.specs.Claims.{AreCovered, CutsSafely, HolderKeepsClearOf, HolderStaysClear, IsColumnPoint, IsRealTip, KeepsDepthOn, KeepsPart, LeavesPoint, NeverGouges, Points, PointsMet, RapidsMiss, column_point, core, left_before}
+use Rattle.mill_verify.specs.Claims.{AreCovered, CutsSafely, HolderKeepsClearOf, HolderStaysClear, IsColumnPoint, IsPointOfFixture, IsRealTip, KeepsDepthOn, KeepsOff, KeepsOut, KeepsPart, LeavesPoint, NeverGouges, Points, PointsMet, RapidsMiss, column_point, core, left_before}
 
 not_over : (a b : ℤ) → ¬ (a <ℤ b) → b ≤ℤ a
 not_over a b h = by (int_lt a b) refl
@@ -57,6 +61,9 @@ move_is moves k m h e = get_or_read moves k m h (sym e) _
 
 tri_is : (part : List Tri) (t : ℕ) (tri : Tri) → t < length part → slice_index_or part t tri ≡ tri → tri ≡ tri_at part t
 tri_is part t tri h e = get_or_read part t tri h (sym e) _
+
+fixture_is : (fixtures : List Fixture) (b : ℕ) (f : Fixture) → b < length fixtures → slice_index_or fixtures b f ≡ f → f ≡ fixture_at fixtures b
+fixture_is fixtures b f h e = get_or_read fixtures b f h (sym e) _
 
 any_default : (ms : List Move) (n : ℕ) (d e : Move) → n < length ms → slice_index_or ms n d ≡ slice_index_or ms n e
 any_default [] n d e h = absurd (omega (h, arith))
@@ -155,7 +162,42 @@ module _ (job : JobFields) (part : List Tri) (start : Stock) (moves : List Move)
     misses_part m a n member moment g =
         clear solid m g.tri a n solid_ok (all_ok m member) (passes member.0 g.member.0 m g.tri member.1 member.2 g.member.1 g.member.2) moment g.touches
 
-  -- so it is of the cutter's core at each real tip
+  -- one that passes each fixture on each move has no point of a fixture strictly inside at any moment of any
+  module _ (clear : PassingIsClear) (solid : Solid) (solid_ok : IsSolid solid) (each : (k : ℕ) → k < length moves → PassesFixtures solid (move_at moves k) job.keep_out) where
+    passes_box : (k b : ℕ) (m : Move) (f : Fixture) → k < length moves → slice_index_or moves k m ≡ m → b < length job.keep_out → slice_index_or job.keep_out b f ≡ f → PassesFixture solid m f
+    passes_box k b m f hk ek hb eb =
+        let q : PassesFixture solid m (fixture_at job.keep_out b) = subst (λ (v : Move). PassesFixture solid v (fixture_at job.keep_out b)) (sym (move_is moves k m hk ek)) (each k hk b hb) in
+        subst (λ (v : Fixture). PassesFixture solid m v) (sym (fixture_is job.keep_out b f hb eb)) q
+
+    pub misses_fixtures : (m : Move) (a n : ℤ) (f : Fixture) (q : ℤ) (p : Pt3) → Contains moves m → IsMoment a n → Contains job.keep_out f → IsPointOfFixture f q p → ¬ SolidHolds solid n (tip_at m a n) q p
+    misses_fixtures m a n f q p member moment there point holds =
+        let passed = passes_box member.0 there.0 m f member.1 member.2 there.1 there.2 in
+        elim (touches_face f q p point solid.cutter n (solid_tip solid n (tip_at m a n)) moment.some holds) [
+          | inl first ↦ clear solid m (first_half f) a n solid_ok (all_ok m member) passed.first moment first
+          | inr second ↦ clear solid m (second_half f) a n solid_ok (all_ok m member) passed.second moment second
+        ]
+
+  -- so it is, at each real tip, of a solid that passes them with the slack around it
+  keeps_off : GrownHolds → PassingIsClear → (solid : Solid) → IsCutter solid.cutter → IsSolid (grown solid job.slack)
+      → ((k : ℕ) → k < length moves → PassesFixtures (grown solid job.slack) (move_at moves k) job.keep_out) → KeepsOff solid job moves
+  keeps_off law clear solid size solid_ok each m n r member real hit =
+      misses_fixtures clear (grown solid job.slack) solid_ok each m real.k real.d hit.fixture hit.n hit.p member real.moment hit.member hit.point
+      (grown_holds law job ok solid size m n r real hit.n hit.p hit.point.some hit.inside)
+
+  -- of the cutter, and of the holder, if there is one
+  pub keeps_out : GrownHolds → PassingIsClear → GoodBeforeOn job part start moves (length moves) → KeepsOut job moves
+  keeps_out law clear good = record {
+    cutter = keeps_off law clear (at_tip job.cutter) ok.cutter_ok (outer_ok job ok) (λ k hk. (good k hk).fixtures);
+    holder = if_some (λ (holder : Solid). KeepsOff holder job moves) job.holder held;
+  }
+    where
+      held : (holder : Solid) → job.holder ≡ Some holder → KeepsOff holder job moves
+      held holder mounted =
+          let with_it : holder_solid_of job ≡ Some (grown holder job.slack) = ap (held_with job.slack) mounted in
+          keeps_off law clear holder (of_some IsSolid job.holder holder mounted ok.holder_ok).cutter_ok (of_some IsSolid (holder_solid_of job) (grown holder job.slack) with_it (holder_solid_ok job ok))
+          (λ k hk. of_some (λ (v : Solid). PassesFixtures v (move_at moves k) job.keep_out) (holder_solid_of job) (grown holder job.slack) with_it (good k hk).holder_fixtures)
+
+  -- nor is a part point inside the cutter's core at a real tip
   pub never_gouges : GrownHolds → PassingIsClear → GoodBeforeOn job part start moves (length moves) → NeverGouges job part moves
   never_gouges law clear good m n r member real g =
       misses_part clear (part_solid_of job) (part_solid_ok job ok) (λ k hk. (good k hk).clears) m real.k real.d member real.moment
@@ -276,4 +318,5 @@ module _ (job : JobFields) (part : List Tri) (moves : List Move) (ok : IsJob job
     kept = keeps_part job part (uncut job) moves ok uncut_ok all_ok law clear over a.good;
     depth = keeps_depth job part (uncut job) moves ok uncut_ok all_ok law keeps left a.good;
     holder = keeps_clear job part (uncut job) moves ok uncut_ok all_ok law clear keeps (left_before job moves) (met_under removed) a.good;
+    fixtures = keeps_out job part (uncut job) moves ok uncut_ok all_ok law clear a.good;
   }

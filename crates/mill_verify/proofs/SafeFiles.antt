@@ -1,10 +1,9 @@
 -- Accepted files cut safely, each from the stock on that those before it left.
 use Rattle.std.specs.Prelude.{◌≡◌, ◌⊎◌, ℕ, ◌<◌, ℤ, ◌<ℤ◌, ◌≤ℤ◌, List, [], ◌∷◌, All, Contains, length, take, drop, int_lt, Bool, true, false, refl}
-use Rattle.std.proofs.Common.{sym, subst, inl, inr, arith, ◌∙◌}
+use Rattle.std.proofs.Common.{subst, inl, inr, arith}
 use Rattle.std.proofs.lemmas.Int.{ints}
 use Rattle.std.proofs.lemmas.List.{take-append-drop}
 use Rattle.std.proofs.lemmas.List.Elements.{Contains-append_left, Contains-append_right}
-use Rattle.mill_base.specs.declared.points.Pt3.{Pt3}
 use Rattle.mill_base.specs.declared.points.Tri.{Tri}
 use Rattle.mill_job.specs.declared.fields.JobFields.{JobFields}
 use Rattle.mill_job.specs.Columns.{column_x, column_y}
@@ -25,8 +24,8 @@ use Rattle.mill_verify.specs.Lists.{AcceptsFiles, IsGoodFile, IsListVerdict}
 use Rattle.mill_verify.specs.Tests.{stock_met}
 use Rattle.mill_verify.specs.declared.list.ListVerdict.{ListVerdict}
 use Rattle.mill_verify.specs.declared.list.ListVerdict.TheVariants as list
-use Rattle.mill_verify.proofs.Filed.{before_stays, file_ok, file_read, stock_as}
-use Rattle.mill_verify.proofs.Safe.{AreUnderTop, are_covered, keeps_clear, keeps_depth, keeps_part, never_gouges, rapids_miss}
+use Rattle.mill_verify.proofs.Filed.{before_stays, file_ok, stock_as}
+use Rattle.mill_verify.proofs.Safe.{AreUnderTop, are_covered, keeps_clear, keeps_depth, keeps_out, keeps_part, never_gouges, rapids_miss}
 
 -- the job keeps its relations with a file's cutter
 pub job_with : (job : JobFields) (file : File) → IsJob job → IsFileOf job file → IsJob (job_of job file)
@@ -115,6 +114,7 @@ module _ (job : JobFields) (part : List Tri) (files : List File) (ok : IsJob job
           rapids = rapids_miss its part (stock_before job files f) file.moves job_ok stays its_ok.moves_ok grown_holds passing_keeps_point (met_by job files f) under good;
           depth = keeps_depth its part (stock_before job files f) file.moves job_ok stays its_ok.moves_ok grown_holds passing_keeps_point passed_is_left good;
           holder = keeps_clear its part (stock_before job files f) file.moves job_ok stays its_ok.moves_ok grown_holds passing_is_clear passing_keeps_point (met_by job files f) under good;
+          fixtures = keeps_out its part (stock_before job files f) file.moves job_ok stays its_ok.moves_ok grown_holds passing_is_clear good;
         }
 
   files_safe : (count moves columns : ℕ) (left : ℤ) → AcceptsFiles job part files count moves columns left → FilesCutSafely job part files

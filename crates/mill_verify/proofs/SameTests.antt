@@ -23,7 +23,7 @@ use Rattle.mill_verify.specs.Tests.{ClearsStockOn, GoodBeforeOn, HolderClearsSto
 use Rattle.mill_verify.specs.Verdicts.{BlocksHolder, BlocksLeaf, FailsHolderStockOn, FailsStockOn, IsFirstUncut, IsLeftOverOn, StopsMoveOn}
 use Rattle.mill_verify.specs.declared.left.Uncut.{Uncut}
 use Rattle.mill_verify.specs.declared.verdict.Reason.{Reason}
-use Rattle.mill_verify.specs.declared.verdict.Reason.TheVariants.{Floor, Gouge, Holder, Rapid as RapidCut, Cut, HolderStock, Left}
+use Rattle.mill_verify.specs.declared.verdict.Reason.TheVariants.{Floor, Gouge, Holder, Fixture, HolderFixture, Rapid as RapidCut, Cut, HolderStock, Left}
 use Rattle.mill_verify.specs.inner.Firsts.{ArePassed, AreRowsTold, IsStockLeft, IsStockTold, IsStopped}
 use Rattle.mill_verify.specs.inner.Readiness.{AreJobRows}
 use Rattle.mill_verify.proofs.Mounted.{each_some}
@@ -101,6 +101,8 @@ module _ (job : JobFields) (part : List Tri) (a b : Stock) (moves : List Move) (
     floor = good.floor;
     clears = good.clears;
     holder = good.holder;
+    fixtures = good.fixtures;
+    holder_fixtures = good.holder_fixtures;
     stock = same_clears k good.stock;
     holder_stock = same_holder_clears k good.holder_stock;
   }
@@ -115,6 +117,8 @@ module _ (job : JobFields) (part : List Tri) (a b : Stock) (moves : List Move) (
     floor = h.floor;
     clears = h.clears;
     holder = h.holder;
+    fixtures = h.fixtures;
+    holder_fixtures = h.holder_fixtures;
     is = h.is;
     tested = h.tested;
     column = h.column;
@@ -132,6 +136,8 @@ module _ (job : JobFields) (part : List Tri) (a b : Stock) (moves : List Move) (
     floor = h.floor;
     clears = h.clears;
     holder_clears = h.holder_clears;
+    fixtures = h.fixtures;
+    holder_fixtures = h.holder_fixtures;
     stock = same_clears k h.stock;
     holder = h.holder;
     mounted = h.mounted;
@@ -158,6 +164,37 @@ module _ (job : JobFields) (part : List Tri) (a b : Stock) (moves : List Move) (
       holder = h.rejects.holder;
       mounted = h.rejects.mounted;
       tri = h.rejects.tri;
+      first = h.rejects.first;
+      fails = h.rejects.fails;
+    };
+    names = h.names;
+  }
+  same_stopped (Fixture k b leaf) h = record {
+    of_move = tt;
+    rejects = record {
+      there = h.rejects.there;
+      before = same_before k h.rejects.before;
+      floor = h.rejects.floor;
+      clears = h.rejects.clears;
+      holder = h.rejects.holder;
+      fixture = h.rejects.fixture;
+      first = h.rejects.first;
+      fails = h.rejects.fails;
+    };
+    names = h.names;
+  }
+  same_stopped (HolderFixture k b leaf) h = record {
+    of_move = tt;
+    rejects = record {
+      there = h.rejects.there;
+      before = same_before k h.rejects.before;
+      floor = h.rejects.floor;
+      clears = h.rejects.clears;
+      holder_clears = h.rejects.holder_clears;
+      fixtures = h.rejects.fixtures;
+      holder = h.rejects.holder;
+      mounted = h.rejects.mounted;
+      fixture = h.rejects.fixture;
       first = h.rejects.first;
       fails = h.rejects.fails;
     };

@@ -14,11 +14,10 @@ use Rattle.mill_dexel.proofs.Blocks.{row_parts}
 use Rattle.mill_dexel.proofs.RowLaws.{row_on_is_row}
 use Rattle.mill_dexel.proofs.RunLaws.{left_next}
 use Rattle.mill_dexel.proofs.TopLaws.{stock_stays}
-use Rattle.mill_job.specs.Jobs.{part_tool_of}
-use Rattle.mill_gouge.specs.Gouges.{ToolPassesPart}
+use Rattle.mill_verify.specs.Clashes.{IsClear}
 use Rattle.mill_dexel.proofs.Stops.{stop_fails}
 use Rattle.mill_verify.proofs.Turned.{before_is}
-use Rattle.mill_verify.proofs.Scanning.{block_more, part_fails}
+use Rattle.mill_verify.proofs.Scanning.{block_more, clash_fails}
 use Rattle.mill_verify.specs.Tests.{stock_met}
 use Rattle.mill_verify.specs.Blocks.{BlockState, IsBlockStopped, block_count, block_of, turned}
 use Rattle.mill_verify.specs.inner.Pieces.{IsPieceAt, IsPieceFailed, PassesTest, TestsShown, blocks_of, first_turn, tests, turn_limit, stock_under}
@@ -67,7 +66,7 @@ module _ (job : JobFields) (start : OneStock) (moves : List Move) (j k : ℕ) wh
 -- a move that a row lets pass as that move meets it passes the test of the row's piece
 row_test : (w : TestsShown) (n t j : ℕ) → n ≡ blocks_of w + j → ClearsRow w.job (row_before w.job w.moves (fresh_row w.job (stock_under w) j) t) (move_at w.moves t) → PassesTest w n t
 row_test w n t j number clears = record {
-  part = λ block. absurd (omega (number, block, arith));
+  block = λ block. absurd (omega (number, block, arith));
   stock = λ i at. subst (λ (k : ℕ). ClearsRow w.job (row_before w.job w.moves (fresh_row w.job (stock_under w) k) t) (move_at w.moves t)) (let e : j ≡ i = omega (number, at, arith) in e) clears;
 }
 
@@ -139,16 +138,16 @@ module _ (w : TestsShown) (n t m : ℕ) where
         ),
       )
 
-  -- a block on whose move the tool clears the part is as the next one meets it
-  pub block_passes : (b new : BlockState) → IsDue tests w n t (Block m b) → ToolPassesPart (part_tool_of w.job) (move_at w.moves t) w.part → new ≡ turned b → PassesTest w n t × IsPieceAt w n (t + 1) (Block m new)
+  -- a block on whose move the tool clears the part and the fixtures is as the next one meets it
+  pub block_passes : (b new : BlockState) → IsDue tests w n t (Block m b) → IsClear w.job w.part (move_at w.moves t) → new ≡ turned b → PassesTest w n t × IsPieceAt w n (t + 1) (Block m new)
   block_passes b new d clears is =
       let under = d.is_at.1 in
-      (record { part = λ block. clears; stock = λ j at. absurd (omega (under, at, arith)) }, (d.is_at.0, under, block_more (block_of w.turns n) b new t d.is_at.2 is))
+      (record { block = λ block. clears; stock = λ j at. absurd (omega (under, at, arith)) }, (d.is_at.0, under, block_more (block_of w.turns n) b new t d.is_at.2 is))
 
   -- where it doesn't, the piece has failed
   pub block_fails : (b new : BlockState) → IsDue tests w n t (Block m b) → IsBlockStopped w.job w.part w.moves b new → (¬ PassesTest w n t) × IsPieceFailed w n t (Block m new)
   block_fails b new d stopped =
       let next : b.next ≡ t = ap (λ (x : BlockState). x.next) d.is_at.2 in (
-        λ p. part_fails w.job w.part (move_at w.moves b.next) stopped.fail stopped.fails (subst (λ (k : ℕ). ToolPassesPart (part_tool_of w.job) (move_at w.moves k) w.part) (sym next) (p.part d.is_at.1)),
+        λ p. clash_fails w.job w.part (move_at w.moves b.next) stopped.fail stopped.fails (subst (λ (k : ℕ). IsClear w.job w.part (move_at w.moves k)) (sym next) (p.block d.is_at.1)),
         (d.is_at.0, d.is_at.1, subst (λ (x : BlockState). IsBlockStopped w.job w.part w.moves x new) d.is_at.2 stopped),
       )

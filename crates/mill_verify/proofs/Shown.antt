@@ -1,5 +1,5 @@
 -- What the tests show of a leaf that a rejection names: it is blocked.
-use Rattle.std.specs.Prelude.{ℕ, List, IfSome}
+use Rattle.std.specs.Prelude.{◌⊎◌, ℕ, List, IfSome}
 use Rattle.mill_base.specs.declared.points.Tri.{Tri}
 use Rattle.mill_base.specs.declared.motion.Move.{Move}
 use Rattle.mill_base.specs.declared.motion.Kind.{Kind}
@@ -7,14 +7,16 @@ use Rattle.mill_base.specs.declared.motion.Kind.TheVariants.{Rapid, Feed}
 use Rattle.mill_base.specs.Points.{point_tri, tri_at}
 use Rattle.mill_sweep.specs.Solids.{SolidIsBlocked}
 use Rattle.mill_sweep.specs.declared.leaf.Leaf.{Leaf}
-use Rattle.mill_job.specs.Solids.{holder_solid_of, part_solid_of, stock_solid_of}
+use Rattle.mill_job.specs.Solids.{holder_solid_of, outer_of, part_solid_of, stock_solid_of}
 use Rattle.mill_job.specs.declared.fields.JobFields.{JobFields}
 use Rattle.mill_dexel.specs.Tops.{Stock, tested_point_on, top_point_on}
 use Rattle.mill_dexel.specs.Turns.{move_at}
+use Rattle.mill_obstacles.specs.Faces.{first_half, second_half}
+use Rattle.mill_verify.specs.Fixtures.{BlocksSolid, fixture_at}
 use Rattle.mill_verify.specs.Tests.{stock_met}
 use Rattle.mill_verify.specs.Verdicts.{IsOfMove, IsRejectionOn}
 use Rattle.mill_verify.specs.declared.verdict.Reason.{Reason}
-use Rattle.mill_verify.specs.declared.verdict.Reason.TheVariants.{Floor, Gouge, Holder, Rapid as RapidCut, Cut, HolderStock, Left}
+use Rattle.mill_verify.specs.declared.verdict.Reason.TheVariants.{Floor, Gouge, Holder, Fixture, HolderFixture, Rapid as RapidCut, Cut, HolderStock, Left}
 
 -- the point of column (j, i) at which a move of this kind is tested after the moves before move k blocks this leaf of that move
 abbrev pub StopsAt : JobFields → Stock → List Move → Kind → ℕ → ℕ → ℕ → Leaf → Type 0
@@ -29,6 +31,8 @@ abbrev pub ShowsBlock : JobFields → List Tri → Stock → List Move → Reaso
 ShowsBlock job part start moves (Floor k) = Unit {0}
 ShowsBlock job part start moves (Gouge k t leaf) = SolidIsBlocked (part_solid_of job) (move_at moves k) (tri_at part t) leaf
 ShowsBlock job part start moves (Holder k t leaf) = BlocksHeld job moves k leaf (tri_at part t)
+ShowsBlock job part start moves (Fixture k b leaf) = BlocksSolid (outer_of job) (move_at moves k) (fixture_at job.keep_out b) leaf
+ShowsBlock job part start moves (HolderFixture k b leaf) = BlocksHeld job moves k leaf (first_half (fixture_at job.keep_out b)) ⊎ BlocksHeld job moves k leaf (second_half (fixture_at job.keep_out b))
 ShowsBlock job part start moves (RapidCut k j i leaf) = StopsAt job start moves Rapid k j i leaf
 ShowsBlock job part start moves (Cut k j i leaf) = StopsAt job start moves Feed k j i leaf
 ShowsBlock job part start moves (HolderStock k j i leaf) = BlocksHeld job moves k leaf (point_tri (top_point_on job (stock_met job start moves k) j i))

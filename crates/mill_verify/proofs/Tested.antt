@@ -15,20 +15,22 @@ use Rattle.mill_base.specs.Points.{point_tri, tri_at}
 use Rattle.mill_sweep.specs.Solids.{SolidIsBlocked, SolidPassesPoint}
 use Rattle.mill_dexel.specs.Tops.{Stock as OneStock, top_point_on}
 use Rattle.mill_sweep.specs.declared.leaf.Leaf.{Leaf}
-use Rattle.mill_gouge.specs.Gouges.{ToolPassesPart}
 use Rattle.mill_job.specs.Solids.{holder_solid_of}
 use Rattle.mill_job.specs.declared.fields.JobFields.{JobFields}
 use Rattle.mill_job.specs.Columns.{row_count}
-use Rattle.mill_job.specs.Jobs.{IsJob, part_tool_of}
+use Rattle.mill_job.specs.Jobs.{IsJob}
 use Rattle.mill_dexel.specs.Rows.{RowState, cutting, fresh_row, holding}
 use Rattle.mill_dexel.specs.Turns.{CutClearsRow, CutStopsAt, HolderStopsAt, StopsAt as StopsBy, StopsRow, move_at, row_before}
 use Rattle.mill_dexel.specs.declared.fail.RowFail.{RowFail}
 use Rattle.mill_dexel.specs.declared.fail.RowTest.{RowTest}
 use Rattle.mill_dexel.specs.declared.fail.RowTest.TheVariants as test
-use Rattle.mill_verify.specs.Blocks.{BlockState, IsPartFail}
-use Rattle.mill_verify.specs.declared.block.PartFail.{PartFail}
-use Rattle.mill_verify.specs.declared.block.PartFail.TheVariants as fail
-use Rattle.mill_verify.specs.Reasons.{cut_reason, part_reason, stock_reason}
+use Rattle.mill_verify.specs.Blocks.{BlockState}
+use Rattle.mill_verify.specs.Clashes.{IsClash, IsClear}
+use Rattle.mill_obstacles.specs.Faces.{first_half, second_half}
+use Rattle.mill_verify.specs.Fixtures.{fixture_at}
+use Rattle.mill_verify.specs.declared.clash.Clash.{Clash}
+use Rattle.mill_verify.specs.declared.clash.Clash.TheVariants as clash
+use Rattle.mill_verify.specs.Reasons.{clash_reason, cut_reason, stock_reason}
 use Rattle.mill_verify.specs.Tests.{GoodBeforeOn, PassesColumnOn, stock_met}
 use Rattle.mill_verify.specs.Verdicts.{FailsStockOn}
 use Rattle.mill_verify.specs.declared.verdict.Reason.{Reason}
@@ -44,7 +46,7 @@ use Rattle.mill_verify.proofs.Gathered.{gathered}
 use Rattle.mill_verify.proofs.Mounted.{for_some, of_some}
 use Rattle.mill_verify.proofs.Ranges.{rows_few}
 use Rattle.mill_verify.proofs.ReadLemmas.{move_read}
-use Rattle.mill_verify.proofs.Shown.{IsShown, StopsAt}
+use Rattle.mill_verify.proofs.Shown.{BlocksHeld, IsShown, StopsAt}
 use Rattle.mill_verify.proofs.Sharing.{first_of_block, first_of_row, limit_of_block, limit_of_row, spans}
 use Rattle.mill_verify.proofs.Turned.{HolderPassesTops, RowClears, RowHolderClears, holder_clears_all, row_clears, row_cut_clears, row_holder_clears, row_stops}
 
@@ -101,8 +103,8 @@ module _ (job : JobFields) (part : List Tri) (start : Option (List RowState)) (m
   row_last u j lt = let l = limit_of_row w (blocks_of w + j) (omega arith) in omega (l, lt, arith)
 
   -- what comes of a move whose tests pass
-  part_cleared : (u : ℕ) → u < turns → PassesTest w (u / 64) u → ToolPassesPart (part_tool_of job) (move_at moves u) part
-  part_cleared u lt p = p.part (block_under u lt)
+  block_cleared : (u : ℕ) → u < turns → PassesTest w (u / 64) u → IsClear job part (move_at moves u)
+  block_cleared u lt p = p.block (block_under u lt)
 
   row_cleared : (u j : ℕ) → PassesTest w (blocks_of w + j) u → RowClears job stock moves u j
   row_cleared u j p = row_clears job stock moves u j (p.stock j refl)
@@ -119,12 +121,14 @@ module _ (job : JobFields) (part : List Tri) (start : Option (List RowState)) (m
       let most = least_most in
       let lt : e < turns = omega (less, to, most, arith) in
       let early : e < least = omega (less, to, arith) in
-      let tool = part_cleared e lt (before_least (e / 64) e (let b = block_under e lt in omega (b, arith)) (block_first e lt) (block_last e lt) early) in
+      let clear = block_cleared e lt (before_least (e / 64) e (let b = block_under e lt in omega (b, arith)) (block_first e lt) (block_last e lt) early) in
       let row : (j : ℕ) → j < row_count job → PassesTest w (blocks_of w + j) e = λ j r. before_least (blocks_of w + j) e (omega (r, arith)) (row_first e j) (row_last e j lt) early in
       record {
         floor = floor.over e lt;
-        clears = tool.cutter;
-        holder = tool.holder;
+        clears = clear.passes_part.cutter;
+        holder = clear.passes_part.holder;
+        fixtures = clear.passes_fixtures.cutter;
+        holder_fixtures = clear.passes_fixtures.holder;
         stock = λ tested j i column. row_cleared e j (row j column.row) tested i column.column;
         holder_stock = holder_clears_all job stock moves e (λ j r. row_held e j (row j r));
       }
@@ -198,7 +202,7 @@ module _ (job : JobFields) (part : List Tri) (start : Option (List RowState)) (m
 
     -- it has a reason
     has_reason : IsJob job → length moves ≤ MAX_MOVES → (p : Piece) → IsPieceFailed w n least p → (reason : Reason) × IsReasonOf kind (blocks_of w) least p reason
-    has_reason ok few (Block m b) f = (part_reason least f.2.fail, (f.2.fail, ap (λ (x : BlockState). x.failed) f.2.noted, refl))
+    has_reason ok few (Block m b) f = (clash_reason least f.2.fail, (f.2.fail, ap (λ (x : BlockState). x.failed) f.2.noted, refl))
     has_reason ok few (Stock m r) f =
         let u = under in let rows = rows_few ok in let same = f.0 in
         (stock_reason f.2.fail.test kind least r.row f.2.fail.col f.2.fail.leaf, (f.2.fail, ap (λ (x : RowState). x.failed) f.2.noted, f.0 ∙ f.1, omega (same, u, rows, few, within, arith), refl))
@@ -216,8 +220,11 @@ module _ (job : JobFields) (part : List Tri) (start : Option (List RowState)) (m
     abbrev Rejects : Reason → Type 0
     Rejects reason = IsShown job part stock moves reason
 
-    part_rejects : (found : PartFail) → IsPartFail job part (move_at moves least) found → Rejects (part_reason least found)
-    part_rejects (fail.Cutter g) f = record {
+    held_shown : (tri : Tri) (holder : Solid) → holder_solid_of job ≡ Some holder → (leaf : Leaf) → SolidIsBlocked holder (move_at moves least) tri leaf → BlocksHeld job moves least leaf tri
+    held_shown tri holder mounted leaf = for_some (λ (v : Solid). SolidIsBlocked v (move_at moves least) tri leaf) (holder_solid_of job) holder mounted
+
+    clash_rejects : (found : Clash) → IsClash job part (move_at moves least) found → Rejects (clash_reason least found)
+    clash_rejects (clash.Cutter g) f = record {
       of_move = tt;
       rejects = record {
         there = move_there;
@@ -229,7 +236,7 @@ module _ (job : JobFields) (part : List Tri) (start : Option (List RowState)) (m
       };
       shown = f.blocked;
     }
-    part_rejects (fail.Holder g) f = record {
+    clash_rejects (clash.Holder g) f = record {
       of_move = tt;
       rejects = record {
         there = move_there;
@@ -244,6 +251,40 @@ module _ (job : JobFields) (part : List Tri) (start : Option (List RowState)) (m
       };
       shown = for_some (λ (holder : Solid). SolidIsBlocked holder (move_at moves least) (tri_at part g.tri) g.leaf) (holder_solid_of job) f.holder f.mounted f.first.blocked;
     }
+    clash_rejects (clash.Fixture hit) f = record {
+      of_move = tt;
+      rejects = record {
+        there = move_there;
+        before = good_to least (omega arith);
+        floor = floor.over least turn_there;
+        clears = f.passes_part.cutter;
+        holder = f.passes_part.holder;
+        fixture = f.first.there;
+        first = f.first.first;
+        fails = f.first.fails;
+      };
+      shown = f.first.blocked;
+    }
+    clash_rejects (clash.HolderFixture hit) f = record {
+      of_move = tt;
+      rejects = record {
+        there = move_there;
+        before = good_to least (omega arith);
+        floor = floor.over least turn_there;
+        clears = f.passes_part.cutter;
+        holder_clears = f.passes_part.holder;
+        fixtures = f.clears;
+        holder = f.holder;
+        mounted = f.mounted;
+        fixture = f.first.there;
+        first = f.first.first;
+        fails = f.first.fails;
+      };
+      shown = elim f.first.blocked [
+        | inl first ↦ inl (held_shown (first_half (fixture_at job.keep_out hit.fixture)) f.holder f.mounted hit.leaf first)
+        | inr second ↦ inr (held_shown (second_half (fixture_at job.keep_out hit.fixture)) f.holder f.mounted hit.leaf second)
+      ];
+    }
 
     kind_rejects : (v : Kind) (j i : ℕ) (leaf : Leaf) → FailsStockOn job part stock moves v least j i leaf → StopsAt job stock moves v least j i leaf → Rejects (cut_reason v least j i leaf)
     kind_rejects Rapid j i leaf fails stops = record { of_move = tt; rejects = fails; shown = stops }
@@ -253,12 +294,12 @@ module _ (job : JobFields) (part : List Tri) (start : Option (List RowState)) (m
     abbrev NoCut : ℕ → Type 0
     NoCut bound = NoneFailedBy test.Cut least hs bound
 
-    block_passed : (bound : ℕ) → NoCut bound → blocks_of w ≤ bound → ToolPassesPart (part_tool_of job) (move_at moves least) part
+    block_passed : (bound : ℕ) → NoCut bound → blocks_of w ≤ bound → IsClear job part (move_at moves least)
     block_passed bound none over =
         let lt = turn_there in
         let b = block_under least lt in
         elim (not_cut (least / 64) (omega (b, arith)) (block_first least lt) (block_last least lt) (λ h at. none (least / 64) h (omega (b, over, arith)) at)) [
-          | inl p ↦ part_cleared least lt p
+          | inl p ↦ block_cleared least lt p
           | inr t ↦ absurd (let e = t.1 in omega (e, b, arith))
         ]
 
@@ -273,14 +314,16 @@ module _ (job : JobFields) (part : List Tri) (start : Option (List RowState)) (m
     cut_rejects j i leaf number none stop =
         let s = row_stops job stock moves least j (cutting job kind (move_at moves least)) i leaf stop.column stop.blocked in
         let u = under in
-        let tool = block_passed n none (omega (number, arith)) in
+        let clear = block_passed n none (omega (number, arith)) in
         kind_rejects kind j i leaf
         (record {
           there = move_there;
           before = good_to least (omega arith);
           floor = floor.over least turn_there;
-          clears = tool.cutter;
-          holder = tool.holder;
+          clears = clear.passes_part.cutter;
+          holder = clear.passes_part.holder;
+          fixtures = clear.passes_fixtures.cutter;
+          holder_fixtures = clear.passes_fixtures.holder;
           is = refl;
           tested = stop.tested;
           column = record { row = omega (number, u, arith); column = s.column };
@@ -304,14 +347,16 @@ module _ (job : JobFields) (part : List Tri) (start : Option (List RowState)) (m
         let held_stop = stop.holder in
         let s = row_stops job stock moves least j (holding held_stop.holder (move_at moves least)) i leaf held_stop.column held_stop.blocked in
         let u = under in let count = closed.count in
-        let tool = block_passed (length hs) none (omega (u, number, count, arith)) in record {
+        let clear = block_passed (length hs) none (omega (u, number, count, arith)) in record {
           of_move = tt;
           rejects = record {
             there = move_there;
             before = good_to least (omega arith);
             floor = floor.over least turn_there;
-            clears = tool.cutter;
-            holder_clears = tool.holder;
+            clears = clear.passes_part.cutter;
+            holder_clears = clear.passes_part.holder;
+            fixtures = clear.passes_fixtures.cutter;
+            holder_fixtures = clear.passes_fixtures.holder;
             stock = λ tested a b column. row_cut (length hs) a none (let r = column.row in omega (r, count, arith)) column.row tested b column.column;
             holder = held_stop.holder;
             mounted = held_stop.there;
@@ -333,7 +378,7 @@ module _ (job : JobFields) (part : List Tri) (start : Option (List RowState)) (m
     rejects : (p : Piece) (reason : Reason) → (test_of p ≡ test.Holder → NoCut (length hs)) → NoneFailedBy (test_of p) least hs n → IsPieceFailed w n least p → IsReasonOf kind (blocks_of w) least p reason → Rejects reason
     rejects (Block m b) reason none before f r =
         let same : f.2.fail ≡ r.0 = one_of (sym (ap (λ (x : BlockState). x.failed) f.2.noted) ∙ r.1) in
-        subst Rejects (sym r.2) (part_rejects r.0 (subst (λ (g : PartFail). IsPartFail job part (move_at moves least) g) same f.2.fails))
+        subst Rejects (sym r.2) (clash_rejects r.0 (subst (λ (g : Clash). IsClash job part (move_at moves least) g) same f.2.fails))
     rejects (Stock m row) reason none before f r =
         let same : f.2.fail ≡ r.0 = one_of (sym (ap (λ (x : RowState). x.failed) f.2.noted) ∙ r.1) in
         let way : test_of (Stock m row) ≡ r.0.test = ap test_in r.1 in

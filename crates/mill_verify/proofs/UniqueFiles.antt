@@ -12,7 +12,7 @@ use Rattle.mill_verify.specs.Verdicts.{AcceptsOn, IsFirstUncut, IsLeftOverOn, Is
 use Rattle.mill_verify.specs.declared.list.ListVerdict.{ListVerdict}
 use Rattle.mill_verify.specs.declared.list.ListVerdict.TheVariants as list
 use Rattle.mill_verify.specs.declared.verdict.Reason.{Reason}
-use Rattle.mill_verify.specs.declared.verdict.Reason.TheVariants.{Floor, Gouge, Holder, Rapid, Cut, HolderStock, Left}
+use Rattle.mill_verify.specs.declared.verdict.Reason.TheVariants.{Floor, Gouge, Holder, Fixture, HolderFixture, Rapid, Cut, HolderStock, Left}
 use Rattle.mill_verify.specs.declared.verdict.Verdict.{Verdict}
 use Rattle.mill_verify.specs.declared.verdict.Verdict.TheVariants.{Accept, Reject}
 use Rattle.mill_verify.proofs.Filed.{column_as, column_back}
@@ -110,6 +110,8 @@ module _ (job : JobFields) (part : List Tri) (file : File) where
   reason_alone (Floor k) h = rejects_alone (Floor k) tt h
   reason_alone (Gouge k t leaf) h = rejects_alone (Gouge k t leaf) tt h
   reason_alone (Holder k t leaf) h = rejects_alone (Holder k t leaf) tt h
+  reason_alone (Fixture k b leaf) h = rejects_alone (Fixture k b leaf) tt h
+  reason_alone (HolderFixture k b leaf) h = rejects_alone (HolderFixture k b leaf) tt h
   reason_alone (Rapid k j i leaf) h = rejects_alone (Rapid k j i leaf) tt h
   reason_alone (Cut k j i leaf) h = rejects_alone (Cut k j i leaf) tt h
   reason_alone (HolderStock k j i leaf) h = rejects_alone (HolderStock k j i leaf) tt h

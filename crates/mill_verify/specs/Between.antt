@@ -12,10 +12,11 @@ use Rattle.mill_job.specs.Jobs.{IsJob}
 use Rattle.mill_job.specs.Slack.{graze_of}
 use Rattle.mill_job.specs.Solids.{inner_of, outer_of}
 use Rattle.mill_job.specs.declared.fields.JobFields.{JobFields}
+use Rattle.mill_job.specs.declared.fixtures.Fixture.{Fixture}
 use Rattle.mill_margin.specs.Margins.{shrunk}
 use Rattle.mill_dexel.specs.Tops.{uncut}
 use Rattle.mill_dexel.specs.Turns.{move_at}
-use Rattle.mill_verify.specs.Claims.{AreCovered, IsColumnPoint, column_point}
+use Rattle.mill_verify.specs.Claims.{AreCovered, IsColumnPoint, IsPointOfFixture, column_point}
 use Rattle.mill_verify.specs.Verdicts.{AcceptsOn}
 
 -- a tool by a test of what it holds: with its tip at a point over a denominator, whether a point over another one is strictly inside it
@@ -41,13 +42,16 @@ abbrev pub LeavesWith : JobFields → Shape → List Move → ℕ → ℕ → �
 LeavesWith job tool moves j i h = ¬ IsTakenBy tool moves (column_point job j i h)
 
 -- with this tool: at no moment of any move is a part point inside it that lies deeper in what the cutter may touch than the overcut; no Rapid takes a column point
--- that the moves before it left and that lies deeper in that than the graze; and every column point left at the end is covered
+-- that the moves before it left and that lies deeper in that than the graze; every column point left at the end is covered; and at
+-- no moment of any move is a point of a fixture inside it
 pub record CutsSafelyWith (job : JobFields) (part : List Tri) (moves : List Move) (tool : Shape) : Type 0 where
   pub gouges : (m : Move) (a n : ℤ) (tri : Tri) (q : ℤ) (p : Pt3) → Contains moves m → IsMoment a n → Contains part tri → IsPointOf tri q p → IsTrue (tool n (tip_at m a n) q p)
       → ¬ SolidHolds (shrunk (outer_of job) job.overcut) n (tip_at m a n) q p
   pub rapids : (k j i : ℕ) (h a n : ℤ) → k < length moves → (move_at moves k).kind ≡ Rapid → IsColumnPoint job j i h → LeavesWith job tool (take k moves) j i h → IsMoment a n
       → IsTrue (tool n (tip_at (move_at moves k) a n) (pos 1) (column_point job j i h)) → ¬ SolidHolds (shrunk (outer_of job) (graze_of job)) n (tip_at (move_at moves k) a n) (pos 1) (column_point job j i h)
   pub covered : AreCovered job part (LeavesWith job tool moves)
+  pub fixtures : (m : Move) (a n : ℤ) (fixture : Fixture) (q : ℤ) (p : Pt3) → Contains moves m → IsMoment a n → Contains job.keep_out fixture → IsPointOfFixture fixture q p
+      → ¬ IsTrue (tool n (tip_at m a n) q p)
 
 -- a law: wherever the tests pass, each such tool cuts safely
 abbrev pub BetweenIsSafe : Type 0

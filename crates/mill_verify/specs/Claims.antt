@@ -1,5 +1,5 @@
 -- What an accepted program does, wherever within the slack the machine's own tip is at each moment of each move.
-use Rattle.std.specs.Prelude.{◌≡◌, ℕ, ◌+◌, ◌<◌, ℤ, pos, ◌-ℤ◌, ◌<ℤ◌, ◌≤ℤ◌, List, Contains, length, take, IfSome}
+use Rattle.std.specs.Prelude.{◌≡◌, ℕ, ◌+◌, ◌<◌, ℤ, pos, ◌-ℤ◌, ◌*ℤ◌, ◌<ℤ◌, ◌≤ℤ◌, List, Contains, length, take, IfSome}
 use Rattle.mill_base.specs.declared.points.Pt3.{Pt3}
 use Rattle.mill_base.specs.declared.points.Tri.{Tri}
 use Rattle.mill_base.specs.declared.motion.Move.{Move}
@@ -9,6 +9,7 @@ use Rattle.mill_base.specs.Motion.{IsMoment, tip_at}
 use Rattle.mill_base.specs.Solids.{Solid, SolidGouges, SolidHolds, at_tip}
 use Rattle.mill_base.specs.Covers.{Covered, HasPointOver}
 use Rattle.mill_job.specs.declared.fields.JobFields.{JobFields}
+use Rattle.mill_job.specs.declared.fixtures.Fixture.{Fixture}
 use Rattle.mill_job.specs.Columns.{IsColumn, column_x, column_y}
 use Rattle.mill_job.specs.Slack.{graze_of}
 use Rattle.mill_job.specs.Solids.{inner_of}
@@ -95,6 +96,33 @@ pub record HolderStaysClear (holder : Solid) (job : JobFields) (part : List Tri)
 abbrev pub HolderKeepsClearOf : JobFields → List Tri → List Move → PointsMet → Type 0
 HolderKeepsClearOf job part moves Met = IfSome job.holder (λ holder. HolderStaysClear holder job part moves Met)
 
+-- the point p over n is one of the fixture: over its area, or on the border, and from below up to its height
+pub record IsPointOfFixture (fixture : Fixture) (n : ℤ) (p : Pt3) : Type 0 where
+  pub some : (pos 0) <ℤ n
+  pub west : (n *ℤ fixture.area.x0) ≤ℤ p.x
+  pub east : p.x ≤ℤ (n *ℤ fixture.area.x1)
+  pub south : (n *ℤ fixture.area.y0) ≤ℤ p.y
+  pub north : p.y ≤ℤ (n *ℤ fixture.area.y1)
+  pub under : p.z ≤ℤ (n *ℤ fixture.height)
+
+-- with the tool's tip at t over m, some point of a fixture is strictly inside the solid
+pub record HitsFixture (solid : Solid) (m : ℤ) (t : Pt3) (fixtures : List Fixture) : Type 0 where
+  pub fixture : Fixture
+  pub member : Contains fixtures fixture
+  pub n : ℤ
+  pub p : Pt3
+  pub point : IsPointOfFixture fixture n p
+  pub inside : SolidHolds solid m t n p
+
+-- at no real tip of any move is a point of a fixture strictly inside the solid
+abbrev pub KeepsOff : Solid → JobFields → List Move → Type 0
+KeepsOff solid job moves = (m : Move) (n : ℤ) (r : Pt3) → Contains moves m → IsRealTip job.slack m n r → ¬ HitsFixture solid n r job.keep_out
+
+-- so it is of the cutter, and of the job's holder, if it has one
+pub record KeepsOut (job : JobFields) (moves : List Move) : Type 0 where
+  pub cutter : KeepsOff (at_tip job.cutter) job moves
+  pub holder : IfSome job.holder (λ holder. KeepsOff holder job moves)
+
 -- ---- one program, from the uncut stock on
 
 -- the column points that the moves before each one may have left
@@ -117,7 +145,7 @@ KeepsDepth job moves = KeepsDepthOn job (uncut job) moves
 abbrev pub HolderKeepsClear : JobFields → List Tri → List Move → Type 0
 HolderKeepsClear job part moves = HolderKeepsClearOf job part moves (left_before job moves)
 
--- what an accepted program does: all six
+-- what an accepted program does: all seven
 pub record CutsSafely (job : JobFields) (part : List Tri) (moves : List Move) : Type 0 where
   pub gouges : NeverGouges job part moves
   pub rapids : RapidsMissStock job moves
@@ -125,3 +153,4 @@ pub record CutsSafely (job : JobFields) (part : List Tri) (moves : List Move) : 
   pub kept : KeepsPart job part moves
   pub depth : KeepsDepth job moves
   pub holder : HolderKeepsClear job part moves
+  pub fixtures : KeepsOut job moves

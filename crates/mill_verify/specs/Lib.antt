@@ -1,8 +1,11 @@
+pub mod Fixtures
 pub mod Tests
+pub mod Clashes
 pub mod Blocks
 pub mod Verdicts
 pub mod Reasons
 pub mod Claims
+pub mod Starts
 pub mod Plain
 pub mod Between
 pub mod Files

@@ -5,7 +5,7 @@ use Rattle.mill_base.specs.declared.points.Tri.{Tri}
 use Rattle.mill_job.specs.declared.fields.JobFields.{JobFields}
 use Rattle.mill_job.specs.Solids.{inner_of}
 use Rattle.mill_dexel.specs.Removed.{IsRemovedBy}
-use Rattle.mill_verify.specs.Claims.{AreCovered, HolderKeepsClearOf, KeepsDepthOn, KeepsPart, NeverGouges, Points, PointsMet, RapidsMiss, column_point}
+use Rattle.mill_verify.specs.Claims.{AreCovered, HolderKeepsClearOf, KeepsDepthOn, KeepsOut, KeepsPart, NeverGouges, Points, PointsMet, RapidsMiss, column_point}
 use Rattle.mill_verify.specs.Files.{File, file_at, job_of, stock_before}
 
 -- some move of a file removes the whole point p for sure, with the file's cutter
@@ -27,14 +27,15 @@ abbrev pub met_by : JobFields → List File → ℕ → PointsMet
 met_by job files f = λ k. left_by job (files_to files f k)
 
 -- the moves of file f, with its cutter: none gouges the part, nor takes what is at or under it; no Rapid takes a column point that all moves before it may have
--- left, but for the graze; where the job limits the depth of cut, none cuts deeper; and the holder, if there is one, touches neither the part nor what all moves
--- before may have left
+-- left, but for the graze; where the job limits the depth of cut, none cuts deeper; the holder, if there is one, touches neither the part nor what all moves
+-- before may have left; and neither touches a fixture
 pub record FileCutsSafely (job : JobFields) (part : List Tri) (files : List File) (f : ℕ) : Type 0 where
   pub gouges : NeverGouges (job_of job (file_at files f)) part (file_at files f).moves
   pub kept : KeepsPart (job_of job (file_at files f)) part (file_at files f).moves
   pub rapids : RapidsMiss (job_of job (file_at files f)) (file_at files f).moves (met_by job files f)
   pub depth : KeepsDepthOn (job_of job (file_at files f)) (stock_before job files f) (file_at files f).moves
   pub holder : HolderKeepsClearOf (job_of job (file_at files f)) part (file_at files f).moves (met_by job files f)
+  pub fixtures : KeepsOut (job_of job (file_at files f)) (file_at files f).moves
 
 -- so each file cuts; and every column point that all of them may leave is covered
 pub record FilesCutSafely (job : JobFields) (part : List Tri) (files : List File) : Type 0 where

@@ -10,7 +10,7 @@ use Rattle.mill_verify.specs.Verdicts.{IsFirstUncut, IsMostLeftOn, IsOfMove, IsR
 use Rattle.mill_verify.specs.declared.list.ListVerdict.{ListVerdict}
 use Rattle.mill_verify.specs.declared.list.ListVerdict.TheVariants as list
 use Rattle.mill_verify.specs.declared.verdict.Reason.{Reason}
-use Rattle.mill_verify.specs.declared.verdict.Reason.TheVariants.{Floor, Gouge, Holder, Rapid, Cut, HolderStock, Left}
+use Rattle.mill_verify.specs.declared.verdict.Reason.TheVariants.{Floor, Gouge, Holder, Fixture, HolderFixture, Rapid, Cut, HolderStock, Left}
 use Rattle.mill_verify.specs.declared.verdict.Verdict.{Verdict}
 use Rattle.mill_verify.specs.declared.verdict.Verdict.TheVariants.{Accept, Reject}
 
@@ -64,6 +64,8 @@ abbrev pub of_reason : Reason → ListVerdict
 of_reason (Floor k) = list.Reject 0 (Floor k)
 of_reason (Gouge k t leaf) = list.Reject 0 (Gouge k t leaf)
 of_reason (Holder k t leaf) = list.Reject 0 (Holder k t leaf)
+of_reason (Fixture k b leaf) = list.Reject 0 (Fixture k b leaf)
+of_reason (HolderFixture k b leaf) = list.Reject 0 (HolderFixture k b leaf)
 of_reason (Rapid k j i leaf) = list.Reject 0 (Rapid k j i leaf)
 of_reason (Cut k j i leaf) = list.Reject 0 (Cut k j i leaf)
 of_reason (HolderStock k j i leaf) = list.Reject 0 (HolderStock k j i leaf)

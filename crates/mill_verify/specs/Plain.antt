@@ -3,17 +3,16 @@ use Rattle.std.specs.Prelude.{◌≡◌, ℕ, ◌+◌, ◌<◌, ℤ, pos, ◌-�
 use Rattle.mill_base.specs.Contact.{GougesOn, IsLeft, Removes}
 use Rattle.mill_base.specs.Covers.{HasPointOver}
 use Rattle.mill_base.specs.Motion.{IsMoment, tip_at}
-use Rattle.mill_base.specs.Solids.{Solid, SolidGouges, SolidHolds}
+use Rattle.mill_base.specs.Solids.{Solid, SolidGouges, SolidHolds, at_tip}
 use Rattle.mill_base.specs.declared.motion.Kind.TheVariants.{Rapid, Feed}
 use Rattle.mill_base.specs.declared.motion.Move.{Move}
 use Rattle.mill_base.specs.declared.points.Tri.{Tri}
 use Rattle.mill_job.specs.Columns.{IsColumn, column_x, column_y}
-use Rattle.mill_job.specs.Jobs.{IsJob}
 use Rattle.mill_job.specs.Slack.{graze_of}
 use Rattle.mill_job.specs.declared.fields.JobFields.{JobFields}
 use Rattle.mill_dexel.specs.Tops.{Stock, uncut}
 use Rattle.mill_dexel.specs.Turns.{move_at}
-use Rattle.mill_verify.specs.Claims.{AreCovered, CutsSafely, IsColumnPoint, column_point}
+use Rattle.mill_verify.specs.Claims.{AreCovered, CutsSafely, HitsFixture, IsColumnPoint, column_point}
 use Rattle.mill_verify.specs.Tests.{stock_met}
 
 -- the job asks for none of the three
@@ -39,9 +38,18 @@ pub record HolderTouchesNothing (holder : Solid) (job : JobFields) (part : List 
   pub misses_stock : (k j i : ℕ) (h a n : ℤ) → k < length moves → IsColumnPoint job j i h → StaysLeft job (take k moves) j i h → IsMoment a n
       → ¬ SolidHolds holder n (tip_at (move_at moves k) a n) (pos 1) (column_point job j i h)
 
--- all six: at no fraction of any move is a part point strictly inside the cutter; no Rapid removes a column point that the moves before it left; every column point left is
--- covered within allowance and band; every column point at or under the part is left; no move cuts deeper than the job's limit, if it has one; and its holder, if it
--- has one, touches neither the part nor what is left
+-- at no moment of any move is a point of a fixture strictly inside the solid
+abbrev pub StaysOff : Solid → JobFields → List Move → Type 0
+StaysOff solid job moves = (m : Move) (a n : ℤ) → Contains moves m → IsMoment a n → ¬ HitsFixture solid n (tip_at m a n) job.keep_out
+
+-- so it is of the cutter, and of the job's holder, if it has one
+pub record StaysOut (job : JobFields) (moves : List Move) : Type 0 where
+  pub cutter : StaysOff (at_tip job.cutter) job moves
+  pub holder : IfSome job.holder (λ holder. StaysOff holder job moves)
+
+-- all seven: at no fraction of any move is a part point strictly inside the cutter; no Rapid removes a column point that the moves before it left; every column point left is
+-- covered within allowance and band; every column point at or under the part is left; no move cuts deeper than the job's limit, if it has one; its holder, if it
+-- has one, touches neither the part nor what is left; and neither cutter nor holder touches a fixture
 pub record CutsPlainly (job : JobFields) (part : List Tri) (moves : List Move) : Type 0 where
   pub gouges : (m : Move) → Contains moves m → ¬ GougesOn job.cutter m part
   pub rapids : (k j i : ℕ) (h : ℤ) → k < length moves → (move_at moves k).kind ≡ Rapid → IsColumnPoint job j i h → StaysLeft job (take k moves) j i h
@@ -50,6 +58,7 @@ pub record CutsPlainly (job : JobFields) (part : List Tri) (moves : List Move) :
   pub kept : (j i : ℕ) (h : ℤ) → IsColumnPoint job j i h → HasPointOver part (pos 0) (column_x job i) (column_y job j) h → StaysLeft job moves j i h
   pub depth : (pos 0) <ℤ job.max_cut → CutsNoDeeper job (uncut job) moves
   pub holder : IfSome job.holder (λ holder. HolderTouchesNothing holder job part moves)
+  pub fixtures : StaysOut job moves
 
 -- a law: without slack, overcut and graze what is said of real tips is said of the program's
 abbrev pub PlainIsPlain : Type 0

@@ -5,15 +5,17 @@ use Rattle.mill_base.specs.declared.motion.Kind.TheVariants as motion
 use Rattle.mill_sweep.specs.declared.leaf.Leaf.{Leaf}
 use Rattle.mill_dexel.specs.declared.fail.RowTest.{RowTest}
 use Rattle.mill_dexel.specs.declared.fail.RowTest.TheVariants as test
-use Rattle.mill_verify.specs.declared.block.PartFail.{PartFail}
-use Rattle.mill_verify.specs.declared.block.PartFail.TheVariants as fail
+use Rattle.mill_verify.specs.declared.clash.Clash.{Clash}
+use Rattle.mill_verify.specs.declared.clash.Clash.TheVariants as clash
 use Rattle.mill_verify.specs.declared.verdict.Reason.{Reason}
-use Rattle.mill_verify.specs.declared.verdict.Reason.TheVariants.{Gouge, Holder, Rapid, Cut, HolderStock}
+use Rattle.mill_verify.specs.declared.verdict.Reason.TheVariants.{Gouge, Holder, Fixture, HolderFixture, Rapid, Cut, HolderStock}
 
--- why a triangle stops a move
-abbrev pub part_reason : ℕ → PartFail → Reason
-part_reason t (fail.Cutter gouge) = Gouge t gouge.tri gouge.leaf
-part_reason t (fail.Holder gouge) = Holder t gouge.tri gouge.leaf
+-- why the part or a fixture stops a move
+abbrev pub clash_reason : ℕ → Clash → Reason
+clash_reason t (clash.Cutter gouge) = Gouge t gouge.tri gouge.leaf
+clash_reason t (clash.Holder gouge) = Holder t gouge.tri gouge.leaf
+clash_reason t (clash.Fixture hit) = Fixture t hit.fixture hit.leaf
+clash_reason t (clash.HolderFixture hit) = HolderFixture t hit.fixture hit.leaf
 
 -- why a column stops the cutter on a move of this kind
 abbrev pub cut_reason : Kind → ℕ → ℕ → ℕ → Leaf → Reason

@@ -6,11 +6,12 @@ use Rattle.mill_sweep.specs.Solids.{SolidPasses, SolidPassesPoint}
 use Rattle.mill_base.specs.Covers.{Covered}
 use Rattle.mill_job.specs.declared.fields.JobFields.{JobFields}
 use Rattle.mill_job.specs.Columns.{column_x, column_y}
-use Rattle.mill_job.specs.Solids.{holder_solid_of, part_solid_of, stock_solid_of}
+use Rattle.mill_job.specs.Solids.{holder_solid_of, outer_of, part_solid_of, stock_solid_of}
 use Rattle.mill_dexel.specs.Tops.{ClearsColumnsOn, HolderClearsColumnsOn, Stock, stock_after, tested_point_on, uncut}
 use Rattle.mill_dexel.specs.Turns.{move_at}
 use Rattle.mill_base.specs.Points.{tri_at}
 use Rattle.mill_gouge.specs.Gouges.{PassesPart}
+use Rattle.mill_verify.specs.Fixtures.{PassesFixtures}
 
 -- test (i): both ends of move k are at or over the floor
 pub record IsOverFloor (job : JobFields) (moves : List Move) (k : ℕ) : Type 0 where
@@ -28,6 +29,14 @@ ClearsPart job part moves k = PassesPart (part_solid_of job) (move_at moves k) p
 -- test (ii h): where the job has a holder, it passes each triangle on move k
 abbrev pub HolderClearsPart : JobFields → List Tri → List Move → ℕ → Type 0
 HolderClearsPart job part moves k = IfSome (holder_solid_of job) (λ holder. PassesPart holder (move_at moves k) part)
+
+-- test (ii f): what the cutter may touch passes each fixture on move k
+abbrev pub ClearsFixtures : JobFields → List Move → ℕ → Type 0
+ClearsFixtures job moves k = PassesFixtures (outer_of job) (move_at moves k) job.keep_out
+
+-- test (ii hf): where the job has a holder, it passes each fixture on move k
+abbrev pub HolderClearsFixtures : JobFields → List Move → ℕ → Type 0
+HolderClearsFixtures job moves k = IfSome (holder_solid_of job) (λ holder. PassesFixtures holder (move_at moves k) job.keep_out)
 
 -- the stock as move k meets it: after the moves before, from this stock on
 abbrev pub stock_met : JobFields → Stock → List Move → ℕ → Stock
@@ -51,6 +60,8 @@ pub record IsGoodOn (job : JobFields) (part : List Tri) (start : Stock) (moves :
   pub floor : IsOverFloor job moves k
   pub clears : ClearsPart job part moves k
   pub holder : HolderClearsPart job part moves k
+  pub fixtures : ClearsFixtures job moves k
+  pub holder_fixtures : HolderClearsFixtures job moves k
   pub stock : ClearsStockOn job start moves k
   pub holder_stock : HolderClearsStockOn job start moves k
 

@@ -1,5 +1,5 @@
 -- The verdict, from a stock on: the first failing test, or that there is none.
-use Rattle.std.specs.Prelude.{◌≡◌, ℕ, ◌<◌, ◌≤◌, ◌*◌, ℤ, ◌-ℤ◌, ◌≤ℤ◌, List, length, Some}
+use Rattle.std.specs.Prelude.{◌≡◌, ◌⊎◌, ℕ, ◌<◌, ◌≤◌, ◌*◌, ℤ, ◌-ℤ◌, ◌≤ℤ◌, List, length, Some}
 use Rattle.mill_base.specs.declared.points.Tri.{Tri}
 use Rattle.mill_base.specs.declared.motion.Move.{Move}
 use Rattle.mill_base.specs.declared.motion.Kind.{Kind}
@@ -11,16 +11,18 @@ use Rattle.mill_sweep.specs.Solids.{SolidFailsAt, SolidIsBlocked, SolidPasses, S
 use Rattle.mill_sweep.specs.declared.leaf.Leaf.{Leaf}
 use Rattle.mill_base.specs.Points.{point_tri, tri_at}
 use Rattle.mill_base.specs.Covers.{IsHighestCovered}
-use Rattle.mill_job.specs.Solids.{holder_solid_of, part_solid_of, stock_solid_of}
+use Rattle.mill_job.specs.Solids.{holder_solid_of, outer_of, part_solid_of, stock_solid_of}
 use Rattle.mill_job.specs.declared.fields.JobFields.{JobFields}
 use Rattle.mill_job.specs.Columns.{IsColumn, IsBefore, column_x, column_y, row_count, column_count}
 use Rattle.mill_dexel.specs.Tops.{IsTested, Stock, stock_after, tested_point_on, top_point_on, uncut}
-use Rattle.mill_verify.specs.Tests.{ClearsPart, ClearsStockOn, GoodBeforeOn, HolderClearsPart, IsCutOn, IsOverFloor, PassesColumnOn, PassesTri, stock_met}
+use Rattle.mill_obstacles.specs.Faces.{first_half, second_half}
+use Rattle.mill_verify.specs.Fixtures.{FailsFixture, PassesFixture, fixture_at}
+use Rattle.mill_verify.specs.Tests.{ClearsFixtures, ClearsPart, ClearsStockOn, GoodBeforeOn, HolderClearsFixtures, HolderClearsPart, IsCutOn, IsOverFloor, PassesColumnOn, PassesTri, stock_met}
 use Rattle.mill_dexel.specs.Turns.{move_at}
 use Rattle.mill_verify.specs.declared.verdict.Verdict.{Verdict}
 use Rattle.mill_verify.specs.declared.verdict.Verdict.TheVariants.{Accept, Reject}
 use Rattle.mill_verify.specs.declared.verdict.Reason.{Reason}
-use Rattle.mill_verify.specs.declared.verdict.Reason.TheVariants.{Floor, Gouge, Holder, Rapid as RapidCut, Cut, HolderStock, Left}
+use Rattle.mill_verify.specs.declared.verdict.Reason.TheVariants.{Floor, Gouge, Holder, Fixture, HolderFixture, Rapid as RapidCut, Cut, HolderStock, Left}
 
 -- move k, all before it being good, fails test (i)
 pub record FailsFloorOn (job : JobFields) (part : List Tri) (start : Stock) (moves : List Move) (k : ℕ) : Type 0 where
@@ -49,13 +51,40 @@ pub record FailsHolderOn (job : JobFields) (part : List Tri) (start : Stock) (mo
   pub first : (e : ℕ) → e < t → SolidPasses holder (move_at moves k) (tri_at part e)
   pub fails : SolidFailsAt holder (move_at moves k) (tri_at part t) leaf
 
--- move k, all before it being good, passes tests (i) to (ii h), is of this kind and tested, and fails test (iii) first at column (j, i), at this leaf
+-- move k, all before it being good, passes tests (i) to (ii h), and fails test (ii f) first at fixture b, at this leaf
+pub record FailsFixtureOn (job : JobFields) (part : List Tri) (start : Stock) (moves : List Move) (k b : ℕ) (leaf : Leaf) : Type 0 where
+  pub there : k < length moves
+  pub before : GoodBeforeOn job part start moves k
+  pub floor : IsOverFloor job moves k
+  pub clears : ClearsPart job part moves k
+  pub holder : HolderClearsPart job part moves k
+  pub fixture : b < length job.keep_out
+  pub first : (e : ℕ) → e < b → PassesFixture (outer_of job) (move_at moves k) (fixture_at job.keep_out e)
+  pub fails : FailsFixture (outer_of job) (move_at moves k) (fixture_at job.keep_out b) leaf
+
+-- move k, all before it being good, passes tests (i) to (ii f), and the job has a holder, which fails test (ii hf) first at fixture b, at this leaf
+pub record FailsHolderFixtureOn (job : JobFields) (part : List Tri) (start : Stock) (moves : List Move) (k b : ℕ) (leaf : Leaf) : Type 0 where
+  pub there : k < length moves
+  pub before : GoodBeforeOn job part start moves k
+  pub floor : IsOverFloor job moves k
+  pub clears : ClearsPart job part moves k
+  pub holder_clears : HolderClearsPart job part moves k
+  pub fixtures : ClearsFixtures job moves k
+  pub holder : Solid
+  pub mounted : holder_solid_of job ≡ Some holder
+  pub fixture : b < length job.keep_out
+  pub first : (e : ℕ) → e < b → PassesFixture holder (move_at moves k) (fixture_at job.keep_out e)
+  pub fails : FailsFixture holder (move_at moves k) (fixture_at job.keep_out b) leaf
+
+-- move k, all before it being good, passes tests (i) to (ii hf), is of this kind and tested, and fails test (iii) first at column (j, i), at this leaf
 pub record FailsStockOn (job : JobFields) (part : List Tri) (start : Stock) (moves : List Move) (kind : Kind) (k j i : ℕ) (leaf : Leaf) : Type 0 where
   pub there : k < length moves
   pub before : GoodBeforeOn job part start moves k
   pub floor : IsOverFloor job moves k
   pub clears : ClearsPart job part moves k
   pub holder : HolderClearsPart job part moves k
+  pub fixtures : ClearsFixtures job moves k
+  pub holder_fixtures : HolderClearsFixtures job moves k
   pub is : (move_at moves k).kind ≡ kind
   pub tested : IsTested job kind
   pub column : IsColumn job j i
@@ -69,6 +98,8 @@ pub record FailsHolderStockOn (job : JobFields) (part : List Tri) (start : Stock
   pub floor : IsOverFloor job moves k
   pub clears : ClearsPart job part moves k
   pub holder_clears : HolderClearsPart job part moves k
+  pub fixtures : ClearsFixtures job moves k
+  pub holder_fixtures : HolderClearsFixtures job moves k
   pub stock : ClearsStockOn job start moves k
   pub holder : Solid
   pub mounted : holder_solid_of job ≡ Some holder
@@ -118,6 +149,8 @@ abbrev pub IsRejectionOn : JobFields → List Tri → Stock → List Move → Re
 IsRejectionOn job part start moves (Floor k) = FailsFloorOn job part start moves k
 IsRejectionOn job part start moves (Gouge k t leaf) = FailsPartOn job part start moves k t leaf
 IsRejectionOn job part start moves (Holder k t leaf) = FailsHolderOn job part start moves k t leaf
+IsRejectionOn job part start moves (Fixture k b leaf) = FailsFixtureOn job part start moves k b leaf
+IsRejectionOn job part start moves (HolderFixture k b leaf) = FailsHolderFixtureOn job part start moves k b leaf
 IsRejectionOn job part start moves (RapidCut k j i leaf) = FailsStockOn job part start moves Rapid k j i leaf
 IsRejectionOn job part start moves (Cut k j i leaf) = FailsStockOn job part start moves Feed k j i leaf
 IsRejectionOn job part start moves (HolderStock k j i leaf) = FailsHolderStockOn job part start moves k j i leaf
@@ -128,6 +161,8 @@ abbrev pub IsOfMove : Reason → Type 0
 IsOfMove (Floor k) = Unit {0}
 IsOfMove (Gouge k t leaf) = Unit {0}
 IsOfMove (Holder k t leaf) = Unit {0}
+IsOfMove (Fixture k b leaf) = Unit {0}
+IsOfMove (HolderFixture k b leaf) = Unit {0}
 IsOfMove (RapidCut k j i leaf) = Unit {0}
 IsOfMove (Cut k j i leaf) = Unit {0}
 IsOfMove (HolderStock k j i leaf) = Unit {0}
@@ -162,6 +197,16 @@ pub record BlocksHolder (job : JobFields) (moves : List Move) (k : ℕ) (leaf : 
 abbrev pub BlocksHolderMove : JobFields → List Tri → List Move → ℕ → ℕ → Leaf → Type 0
 BlocksHolderMove job part moves k t leaf = BlocksHolder job moves k leaf (tri_at part t)
 
+-- a triangle of the upper face of fixture b blocks the cutter on this leaf of move k
+abbrev pub BlocksAtFixture : JobFields → List Move → ℕ → ℕ → Leaf → Type 0
+BlocksAtFixture job moves k b leaf =
+    BlocksLeaf (outer_of job) (move_at moves k) leaf (first_half (fixture_at job.keep_out b))
+    ⊎ BlocksLeaf (outer_of job) (move_at moves k) leaf (second_half (fixture_at job.keep_out b))
+
+-- one does the holder
+abbrev pub BlocksHolderAtFixture : JobFields → List Move → ℕ → ℕ → Leaf → Type 0
+BlocksHolderAtFixture job moves k b leaf = BlocksHolder job moves k leaf (first_half (fixture_at job.keep_out b)) ⊎ BlocksHolder job moves k leaf (second_half (fixture_at job.keep_out b))
+
 -- the point at the top of column (j, i) after the moves before move k blocks the holder on this leaf of that move
 abbrev pub StopsHolderMoveOn : JobFields → Stock → List Move → ℕ → ℕ → ℕ → Leaf → Type 0
 StopsHolderMoveOn job start moves k j i leaf = BlocksHolder job moves k leaf (point_tri (top_point_on job (stock_met job start moves k) j i))
@@ -171,6 +216,8 @@ abbrev pub NamesLeaf : JobFields → List Tri → Stock → List Move → Reason
 NamesLeaf job part start moves (Floor k) = Unit {0}
 NamesLeaf job part start moves (Gouge k t leaf) = BlocksMove job part moves k t leaf
 NamesLeaf job part start moves (Holder k t leaf) = BlocksHolderMove job part moves k t leaf
+NamesLeaf job part start moves (Fixture k b leaf) = BlocksAtFixture job moves k b leaf
+NamesLeaf job part start moves (HolderFixture k b leaf) = BlocksHolderAtFixture job moves k b leaf
 NamesLeaf job part start moves (RapidCut k j i leaf) = StopsMoveOn job start moves Rapid k j i leaf
 NamesLeaf job part start moves (Cut k j i leaf) = StopsMoveOn job start moves Feed k j i leaf
 NamesLeaf job part start moves (HolderStock k j i leaf) = StopsHolderMoveOn job start moves k j i leaf

@@ -4,3 +4,4 @@ pub mod Readiness
 pub mod Pieces
 pub mod Failures
 pub mod Listed
+pub mod Reaches

@@ -1,9 +1,11 @@
 ghost use Rattle.std.specs.Prelude.{◌≡◌, ◌<◌, false, length, IsTrue, MatchOption};
-ghost use Rattle.mill_verify.specs.Reasons.{part_reason as reason_by_part, stock_reason as reason_by_stock};
+ghost use Rattle.mill_verify.specs.Reasons.{clash_reason as reason_by_clash};
+ghost use Rattle.mill_verify.specs.Reasons.{stock_reason as reason_by_stock};
 ghost use Rattle.mill_verify.specs.declared.verdict.Reason.{Reason as Why};
 ghost use Rattle.mill_verify.specs.inner.Failures.{HasFailed, HasFailedBy, IsFirstFailed, IsFirstFailedBy, IsReasonOf, NoneFailed, NoneFailedBy, test_of as its_test};
 
-use crate::block::PartFail;
+use crate::clash::Clash;
+use crate::fixture::FixtureHit;
 use crate::piece::Piece;
 use crate::verdict::Reason;
 use mill_base::Kind;
@@ -70,15 +72,15 @@ fn test_of(piece: &Piece) -> RowTest
     }
 }
 
-/// Why a piece has failed at a move of this kind: a block at a triangle, and a row of the stock, which come
-/// after so many blocks, at a column.
+/// Why a piece has failed at a move of this kind: a block at a triangle or at a fixture, and a row
+/// of the stock, which come after so many blocks, at a column.
 pub fn reason_of(held: &Held<Piece>, kind: Kind, blocks: u64) -> Reason
     requires { (reason : Why) × IsReasonOf kind blocks held.now.next held.now.piece reason }
     ensures { IsReasonOf kind blocks held.now.next held.now.piece result }
 {
     match &held.piece {
         Piece::Block { number: _, block } => match block.failed() {
-            Some(fail) => part_reason(held.next, fail),
+            Some(clash) => clash_reason(held.next, clash),
             None => unreachable!(),
         },
         Piece::Stock { number, row } => match row.failed() {
@@ -91,13 +93,17 @@ pub fn reason_of(held: &Held<Piece>, kind: Kind, blocks: u64) -> Reason
     }
 }
 
-/// The reason for which move `at` is rejected that fails the tests against the part so.
-pub fn part_reason(at: u64, fail: PartFail) -> Reason
-    ensures { result ≡ reason_by_part at fail }
+/// The reason for which move `at` is rejected that fails the tests against part and fixtures so.
+pub fn clash_reason(at: u64, clash: Clash) -> Reason
+    ensures { result ≡ reason_by_clash at clash }
 {
-    match fail {
-        PartFail::Cutter(Gouge { tri, leaf }) => Reason::Gouge { at, tri, leaf },
-        PartFail::Holder(Gouge { tri, leaf }) => Reason::Holder { at, tri, leaf },
+    match clash {
+        Clash::Cutter(Gouge { tri, leaf }) => Reason::Gouge { at, tri, leaf },
+        Clash::Holder(Gouge { tri, leaf }) => Reason::Holder { at, tri, leaf },
+        Clash::Fixture(FixtureHit { fixture, leaf }) => Reason::Fixture { at, fixture, leaf },
+        Clash::HolderFixture(FixtureHit { fixture, leaf }) => {
+            Reason::HolderFixture { at, fixture, leaf }
+        }
     }
 }
 

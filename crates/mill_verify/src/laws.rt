@@ -1,6 +1,7 @@
 ghost use Rattle.mill_verify.specs.Between.{BetweenIsSafe};
 ghost use Rattle.mill_verify.specs.Lists.{AloneIsVerdict, OneListVerdict};
 ghost use Rattle.mill_verify.specs.Plain.{PlainIsPlain};
+ghost use Rattle.mill_verify.specs.Starts.{StartIsSafe};
 ghost use Rattle.mill_verify.specs.Verdicts.{OneVerdict};
 
 /// A job, a part and a list of moves have at most one verdict.
@@ -39,4 +40,14 @@ pub fn plain_is_plain()
 /// It has no code, as [`one_verdict`].
 pub fn between_is_safe()
     ensures { BetweenIsSafe }
+{}
+
+/// Wherever its tip is before a program, the job's tool, the slack around it, comes safely to a place
+/// at or over the clear height: straight up or down to that height, and straight across.
+///
+/// It is to be free where it stands, of the part and of each fixture, and its tip at or over the clear
+/// height, or no higher than that place. Then it is free at each moment of both. That a machine so
+/// begins is what its program's first two lines say. It has no code, as [`one_verdict`].
+pub fn start_is_safe()
+    ensures { StartIsSafe }
 {}

@@ -22,8 +22,8 @@ use std::alloc::Global;
 /// Tests (i) to (iii h) of a program from this stock on: the rows of the stock that all moves leave, or the
 /// first test that a move fails.
 ///
-/// The crew shares the tests against the part and the stock of the moves before the first that fails test
-/// (i). What these come to has the first that fails.
+/// The crew shares the tests against part, fixtures and stock of the moves before the first that
+/// fails test (i). What these come to has the first that fails.
 pub fn rows_after<C: TestCrew>(
     crew: &C,
     alloc: Global,

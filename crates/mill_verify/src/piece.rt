@@ -1,8 +1,8 @@
 use crate::block::Block;
 use mill_dexel::Row;
 
-/// A piece of the tests, with its number among all pieces: some moves to be tested against the part, or
-/// a row of the stock.
+/// A piece of the tests, with its number among all pieces: some moves to be tested against the part
+/// and the fixtures, or a row of the stock.
 #[derive(Drop)]
 pub enum Piece {
     Block { number: u64, block: Block },

@@ -1,10 +1,8 @@
 ghost use Rattle.std.specs.Prelude.{◌≡◌, ℕ, ◌≤◌, ℤ, List, length, Ok, IfOk};
 ghost use Rattle.mill_base.specs.declared.limits.TheConstants.{MAX_MOVES};
 ghost use Rattle.mill_base.specs.Covers.{IsUnder};
-ghost use Rattle.mill_base.specs.Motion.{Follow};
 ghost use Rattle.mill_base.specs.Ranges.{MovesInRange};
 ghost use Rattle.mill_base.specs.declared.points.Tri.{Tri};
-ghost use Rattle.mill_job.specs.Columns.{home};
 ghost use Rattle.mill_verify.specs.Claims.{CutsSafely};
 ghost use Rattle.mill_dexel.specs.Stocks.{IsStock};
 ghost use Rattle.mill_dexel.specs.Tops.{stock_after, uncut};
@@ -32,17 +30,19 @@ use std::alloc::Global;
 /// `max_cut` isn't 0, the point of every column that lies so far under that top, or at the floor if
 /// that is higher; then the move cuts. Where the job has a holder, a move is also tested with it,
 /// halved in the same way: (ii h), after (ii), it passes every triangle, and (iii h), after (iii),
-/// the top of every column, whether the move is a rapid or a feed. After the last move, (iv) every
-/// column stands at most the allowance over what covers it. An accepted program cuts safely, at
-/// every fraction of every move. A rejection by (ii) or (iii) names a leaf whose outer cutter,
-/// which holds the cutter at each moment of the leaf and is wider by at most two units, has some
-/// point of the triangle, or the point of the column, strictly inside; one by (ii h) or (iii h) the
-/// same of the holder.
+/// the top of every column, whether the move is a rapid or a feed. Where fixtures stand on the
+/// machine, a move passes each of them too: (ii f), after (ii h), what the cutter may touch passes
+/// both triangles of its upper face, and (ii hf) the holder does, before (iii). After the last
+/// move, (iv) every column stands at most the allowance over what covers it. An accepted program
+/// cuts safely, at every fraction of every move. A rejection by (ii), (ii f) or (iii) names a leaf
+/// whose outer cutter, which holds the cutter at each moment of the leaf and is wider by at most
+/// two units, has some point of the triangle, of the fixture's upper face, or the point of the
+/// column, strictly inside; one by (ii h), (ii hf) or (iii h) the same of the holder.
 ///
 /// The crew shares the work; the verdict doesn't depend on who it is, or on which of its workers does what.
 ///
-/// The part is nowhere higher than the uncut stock. The program has at most 1,000,000 moves; it starts at
-/// the job's home, and each move begins where the one before it ended. A part point covers the column on which it stands, and those nearer to it than the
+/// The part is nowhere higher than the uncut stock. The program has at most 1,000,000 moves,
+/// from wherever it starts. A part point covers the column on which it stands, and those nearer to it than the
 /// job's band.
 ///
 /// The only error is want of memory, for the bands of the moves and the rows of the stock.
@@ -56,7 +56,6 @@ pub fn verify<C: TestCrew>(
     requires crew_ok { C.ready }
     requires moves_ok { MovesInRange moves.now }
     requires under { IsUnder part.now job.now.fields.top }
-    requires follow { Follow (home job.now.fields) moves.now }
     requires few { length moves.now ≤ MAX_MOVES }
     ensures verdict { IfOk result (IsVerdict job.now.fields part.now moves.now) }
     ensures safe { (count columns : ℕ) (left : ℤ)

@@ -1,6 +1,7 @@
 use mill_sweep::Leaf;
 
-/// The first written test that fails. Moves, triangles, rows and columns are counted from 0.
+/// The first written test that fails. Moves, triangles, fixtures, rows and columns are counted
+/// from 0.
 #[derive(Clone, Copy, Debug, PartialEq, Eq)]
 pub enum Reason {
     /// An end of the move is under the floor.
@@ -18,6 +19,21 @@ pub enum Reason {
     Holder {
         at: u64,
         tri: u32,
+        leaf: Leaf,
+    },
+    /// Cutter and holder pass the part, and the cutter doesn't pass the upper face of the fixture,
+    /// which blocks this leaf of the move.
+    Fixture {
+        at: u64,
+        fixture: u32,
+        leaf: Leaf,
+    },
+    /// Cutter and holder pass the part, and the cutter the fixtures, and the holder doesn't pass
+    /// the upper face of the fixture, which blocks this leaf of the move as the holder's own tip
+    /// makes it.
+    HolderFixture {
+        at: u64,
+        fixture: u32,
         leaf: Leaf,
     },
     /// The rapid doesn't pass the point at the top of the column, which blocks this leaf of the move.

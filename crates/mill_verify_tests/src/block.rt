@@ -6,7 +6,7 @@ use mill_base::{Move, Pt3};
 use mill_job::Job;
 use mill_part::SortedPart;
 use mill_tables::{add, halves, part_of, step_fits};
-use mill_verify::{Block, PartFail};
+use mill_verify::{Block, Clash};
 use std::alloc::Global;
 use std::process::Abort;
 use std::test::Fail;
@@ -61,16 +61,28 @@ fn told_block(alloc: Global, block: &Block, passes: bool) -> Result<String, Fail
     let ends = (block.first(), block.limit(), block.next());
     match block.failed() {
         None => Ok(format!(in alloc; "{word} {ends:?}")?),
-        Some(PartFail::Cutter(gouge)) => {
+        Some(Clash::Cutter(gouge)) => {
             Ok(format!(in alloc;
                 "{word} {ends:?}, cutter at {}, {:?}",
                 gouge.tri, gouge.leaf
             )?)
         }
-        Some(PartFail::Holder(gouge)) => {
+        Some(Clash::Holder(gouge)) => {
             Ok(format!(in alloc;
                 "{word} {ends:?}, holder at {}, {:?}",
                 gouge.tri, gouge.leaf
+            )?)
+        }
+        Some(Clash::Fixture(hit)) => {
+            Ok(format!(in alloc;
+                "{word} {ends:?}, cutter at box {}, {:?}",
+                hit.fixture, hit.leaf
+            )?)
+        }
+        Some(Clash::HolderFixture(hit)) => {
+            Ok(format!(in alloc;
+                "{word} {ends:?}, holder at box {}, {:?}",
+                hit.fixture, hit.leaf
             )?)
         }
     }

@@ -20,6 +20,19 @@ const WHOLE_RANGE: Keys<'static> = (
     "",
 );
 
+/// A block of stock from 0 to 300 over a square of 100, and four columns in it, on which all may be
+/// left.
+const FENCED_BLOCK: &str =
+    "floor = 0; top = 300; clear = 400; area = [0, 0, 100, 100]; home = [0, 0]; pitch = 100; \
+    sample = 50; radius = 100; allowance = 300; band = 0";
+
+/// The block under each kind of cutter. A row says which fixtures stand about it.
+const FENCED: Keys<'static> = (FENCED_BLOCK, "cutter = 'flat'");
+
+const FENCED_BALL: Keys<'static> = (FENCED_BLOCK, "cutter = 'ball'");
+
+const FENCED_CONE: Keys<'static> = (FENCED_BLOCK, "cutter = 'cone'; rise = 1; run = 1");
+
 /// A job by its name and more keys.
 fn job_named(alloc: Global, text: &str) -> Result<Job, Fail> {
     let (name, more) = text.split_once(' ').unwrap_or((text, ""));
@@ -28,6 +41,9 @@ fn job_named(alloc: Global, text: &str) -> Result<Job, Fail> {
         "any" => job_of(alloc, ANY_BLOCK, more),
         "narrow" => job_of(alloc, NARROW_BLOCK, more),
         "whole" => job_of(alloc, WHOLE_RANGE, more),
+        "fenced" => job_of(alloc, FENCED, more),
+        "fenced-ball" => job_of(alloc, FENCED_BALL, more),
+        "fenced-cone" => job_of(alloc, FENCED_CONE, more),
         _ => Err(Fail::from("no such job")),
     }
 }
@@ -55,6 +71,15 @@ const UNDER_ALLOWANCE: &str =
 const FLOOR: &str = "-524287 -524287 -524287, 524287 -524287 -524287, 524287 524287 -524287; \
     -524287 -524287 -524287, 524287 524287 -524287, -524287 524287 -524287";
 
+/// A point at the floor, which stops no move.
+const SPECK: &str = "0 0 0, 0 0 0, 0 0 0";
+
+/// A plate at the height 250 under home.
+const HIGH: &str = "-50 -50 250, 50 -50 250, 50 50 250; -50 -50 250, 50 50 250, -50 50 250";
+
+/// A line at the stock's top, beside the cutter at home and under its holder.
+const EDGE: &str = "150 -300 300, 150 300 300, 150 300 300";
+
 /// The triangles of a part by its name.
 fn corners_of(name: &str) -> Result<&'static str, Fail> {
     match name {
@@ -66,6 +91,9 @@ fn corners_of(name: &str) -> Result<&'static str, Fail> {
         "allowance" => Ok(ALLOWANCE),
         "under-allowance" => Ok(UNDER_ALLOWANCE),
         "floor" => Ok(FLOOR),
+        "speck" => Ok(SPECK),
+        "high" => Ok(HIGH),
+        "edge" => Ok(EDGE),
         _ => Err(Fail::from("no such part")),
     }
 }
@@ -267,4 +295,85 @@ whole cutter = 'cone'; radius = 10000; rise = 3; run = 2 | floor | feed 524287 5
 #[test]
 fn judges_over_the_whole_range(rt: HostRuntime) -> Result<(), Fail> {
     each_verdict(&rt, OVER_THE_WHOLE_RANGE, 2)
+}
+
+// Down at home beside a box that is a radius away, and one nearer; over a box at the tip, and one
+// higher; beside one whose corner is at the radius, and one nearer. A box may be a line. Then boxes
+// in the way of a move along x: the least that stops it counts, and the first move that any stops.
+// Of the two triangles of a face the one to the left alone stops the first of two moves, and the
+// one to the right that of the other.
+//
+// Then the order of the tests, with and without a holder. Neither overcut nor graze is taken off at
+// a box.
+const FIXTURES: &str = "\
+fenced keep_out = [[100, -50, 200, 50, 300]] | speck | feed 0 0 200; rapid 0 0 400 => Accept { \
+    moves: 2, columns: 4, most_left: 300 }
+fenced keep_out = [[99, -50, 200, 50, 300]] | speck | feed 0 0 200; rapid 0 0 400 => \
+    Reject(Fixture { at: 0, fixture: 0, leaf: Leaf { d: 8, k: 128 } })
+fenced keep_out = [[-50, -50, 50, 50, 200]] | speck | feed 0 0 200; rapid 0 0 400 => Accept { \
+    moves: 2, columns: 4, most_left: 300 }
+fenced keep_out = [[-50, -50, 50, 50, 201]] | speck | feed 0 0 200; rapid 0 0 400 => \
+    Reject(Fixture { at: 0, fixture: 0, leaf: Leaf { d: 8, k: 254 } })
+fenced keep_out = [[60, 80, 200, 200, 300]] | speck | feed 0 0 200; rapid 0 0 400 => Accept { \
+    moves: 2, columns: 4, most_left: 300 }
+fenced keep_out = [[60, 79, 200, 200, 300]] | speck | feed 0 0 200; rapid 0 0 400 => \
+    Reject(Fixture { at: 0, fixture: 0, leaf: Leaf { d: 8, k: 128 } })
+fenced keep_out = [[99, -300, 99, 300, 400]] | speck | feed 0 0 200; rapid 0 0 400 => \
+    Reject(Fixture { at: 0, fixture: 0, leaf: Leaf { d: 8, k: 0 } })
+fenced-ball keep_out = [[99, -300, 99, 300, 400]] | speck | feed 0 0 200; rapid 0 0 400 => \
+    Reject(Fixture { at: 0, fixture: 0, leaf: Leaf { d: 8, k: 108 } })
+fenced-cone keep_out = [[99, -300, 99, 300, 400]] | speck | feed 0 0 200; rapid 0 0 400 => \
+    Reject(Fixture { at: 0, fixture: 0, leaf: Leaf { d: 8, k: 126 } })
+fenced keep_out = [[250, 0, 300, 1, 300], [150, 0, 300, 1, 300]] | speck | feed 0 0 200; feed 200 \
+    0 200; rapid 200 0 400 => Reject(Fixture { at: 1, fixture: 0, leaf: Leaf { d: 8, k: 192 } })
+fenced keep_out = [[150, 0, 300, 1, 300], [150, 0, 300, 1, 300]] | speck | feed 0 0 200; feed 200 \
+    0 200; rapid 200 0 400 => Reject(Fixture { at: 1, fixture: 0, leaf: Leaf { d: 8, k: 64 } })
+fenced keep_out = [[250, 0, 300, 1, 300], [-300, 0, -250, 1, 300]] | speck | feed 0 0 200; feed \
+    -200 0 200; feed 200 0 200; rapid 200 0 400 => Reject(Fixture { at: 1, fixture: 1, leaf: Leaf \
+    { d: 8, k: 192 } })
+fenced keep_out = [[100, -400, 300, 100, 300]] | speck | feed 0 0 200; feed 0 150 200; feed 20 \
+    150 200; rapid 20 150 400 => Reject(Fixture { at: 1, fixture: 0, leaf: Leaf { d: 8, k: 0 } })
+fenced keep_out = [[-150, -400, 100, -50, 300]] | speck | feed 0 0 400; feed 100 0 400; feed 100 \
+    10 200; feed 100 0 200; rapid 100 0 400 => Reject(Fixture { at: 2, fixture: 0, leaf: Leaf { \
+    d: 8, k: 128 } })
+fenced keep_out = [[-50, -50, 50, 50, 400]] | speck | rapid 0 0 399 => Reject(Fixture { at: 0, \
+    fixture: 0, leaf: Leaf { d: 0, k: 0 } })
+fenced keep_out = [[-50, -50, 50, 50, 300]] | speck | feed 0 0 -100 => Reject(Floor { at: 0 })
+fenced keep_out = [[-50, -50, 50, 50, 300]] | high | feed 0 0 200 => Reject(Gouge { at: 0, tri: \
+    0, leaf: Leaf { d: 8, k: 192 } })
+fenced keep_out = [[-50, -50, 50, 50, 300]] | high | feed 0 0 250; feed 0 0 100 => Reject(Fixture \
+    { at: 0, fixture: 0, leaf: Leaf { d: 8, k: 170 } })
+fenced holder_radius = 200; stickout = 50; keep_out = [[-50, -50, 50, 50, 300]] | edge | feed 0 0 \
+    200 => Reject(Holder { at: 0, tri: 0, leaf: Leaf { d: 8, k: 192 } })
+fenced holder_radius = 200; stickout = 50; keep_out = [[150, -50, 200, 50, 300], [-50, -50, 50, \
+    50, 300]] | speck | feed 0 0 200 => Reject(Fixture { at: 0, fixture: 1, leaf: Leaf { d: 8, k: \
+    128 } })
+fenced holder_radius = 200; stickout = 50; keep_out = [[300, 0, 400, 50, 400], [150, -50, 200, \
+    50, 300]] | speck | feed 0 0 200 => Reject(HolderFixture { at: 0, fixture: 1, leaf: Leaf { d: \
+    8, k: 192 } })
+fenced max_cut = 10; holder_radius = 200; stickout = 50; keep_out = [[150, -50, 200, 50, 300]] | \
+    speck | feed 0 0 200 => Reject(HolderFixture { at: 0, fixture: 0, leaf: Leaf { d: 8, k: 192 } \
+    })
+fenced holder_radius = 200; stickout = 50; keep_out = [[150, -50, 200, 50, 300]] | speck | rapid \
+    0 0 200 => Reject(HolderFixture { at: 0, fixture: 0, leaf: Leaf { d: 8, k: 192 } })
+fenced keep_out = [[-50, -50, 50, 50, 300]] | speck | rapid 0 0 200 => Reject(Fixture { at: 0, \
+    fixture: 0, leaf: Leaf { d: 8, k: 128 } })
+fenced max_cut = 10; keep_out = [[-50, -50, 50, 50, 300]] | speck | feed 0 0 200 => \
+    Reject(Fixture { at: 0, fixture: 0, leaf: Leaf { d: 8, k: 128 } })
+fenced keep_out = [[-50, -50, 50, 50, 200]] | speck | rapid 0 0 200 => Reject(Rapid { at: 0, row: \
+    0, col: 0, leaf: Leaf { d: 8, k: 128 } })
+fenced holder_radius = 200; stickout = 50; keep_out = [[150, -50, 200, 50, 250]] | speck | feed 0 \
+    0 200 => Reject(HolderStock { at: 0, row: 0, col: 0, leaf: Leaf { d: 8, k: 192 } })
+fenced overcut = 50; keep_out = [[-50, -50, 50, 50, 201]] | speck | feed 0 0 200 => \
+    Reject(Fixture { at: 0, fixture: 0, leaf: Leaf { d: 8, k: 254 } })
+fenced graze = 50; keep_out = [[-50, -50, 50, 50, 201]] | speck | feed 0 0 200 => Reject(Fixture \
+    { at: 0, fixture: 0, leaf: Leaf { d: 8, k: 254 } })
+fenced overcut = 90; holder_radius = 200; stickout = 50; keep_out = [[150, -50, 200, 50, 300]] | \
+    speck | feed 0 0 200 => Reject(HolderFixture { at: 0, fixture: 0, leaf: Leaf { d: 8, k: 192 } \
+    })";
+
+#[test]
+fn keeps_out_of_fixtures(rt: HostRuntime) -> Result<(), Fail> {
+    each_verdict(&rt, FIXTURES, 1)?;
+    each_verdict(&rt, FIXTURES, 4)
 }

@@ -1,9 +1,8 @@
 //! The block of stock of the tests, and what stands in their rows: jobs and programs.
 ghost use Rattle.std.specs.Prelude.{◌≡◌, ◌≤◌, length, IfOk};
-ghost use Rattle.mill_base.specs.Motion.{Follow};
 ghost use Rattle.mill_base.specs.Ranges.{IsInRange, MoveInRange, MovesInRange};
 ghost use Rattle.mill_base.specs.declared.limits.TheConstants.{MAX_MOVES};
-ghost use Rattle.mill_job.specs.Columns.{home as home_of};
+ghost use Rattle.mill_verify.specs.Files.{GoOn};
 
 use mill_base::{Move, Pt3};
 use mill_job::Job;
@@ -71,7 +70,7 @@ pub(crate) fn step_from(from: Pt3, text: &str) -> Result<Move, Fail>
 /// A program from the job's home on, by the kind and the end of each move.
 pub(crate) fn program(alloc: Global, job: &Job, text: &str) -> Result<Vec<Move>, Fail>
     ensures range { IfOk result (λ moves. MovesInRange moves.items) }
-    ensures follow { IfOk result (λ moves. Follow (home_of job.now.fields) moves.items) }
+    ensures follow { IfOk result (λ moves. GoOn job.now.fields moves.items) }
     ensures few { IfOk result (λ moves. length moves.items ≤ MAX_MOVES) }
 {
     let mut at = job.home();

@@ -21,10 +21,13 @@ use Rattle.mill_block.specs.declared.plain_move.PlainMove.{PlainMove}
 use Rattle.mill_block.specs.declared.profile.Effect.TheVariants.{Motion}
 use Rattle.mill_block.specs.declared.profile.Mode.{Mode}
 use Rattle.mill_block.specs.declared.profile.Mode.TheVariants.{On}
+use Rattle.mill_block.specs.declared.progress.Drive.{Drive}
+use Rattle.mill_block.specs.declared.progress.Known.TheVariants.{All}
 use Rattle.mill_block.specs.declared.progress.Progress.{Progress}
 use Rattle.mill_block.specs.declared.said.Said.{Said}
-use Rattle.mill_block.specs.Motion.{made_move}
-use Rattle.mill_block.specs.Numbers.{axis_units, whole_of}
+use Rattle.mill_block.specs.Drives.{full_drive}
+use Rattle.mill_block.specs.Motion.{known_of, made_move}
+use Rattle.mill_block.specs.Numbers.{axis_units, is_over_zero, whole_of}
 use Rattle.mill_block.specs.Profile.{entry_in, g_entry, is_same_group, row}
 use Rattle.mill_block.specs.Lines.{after_words, frame_after}
 use Rattle.mill_block.specs.Said.{after_word, nothing_said, said_from}
@@ -65,6 +68,10 @@ pub record AreFree (plain : PlainLine) (groups : List Group) : Type 0 where
   pub motion : IsFree (is_some plain.kind) 71 1 groups
   pub feed : IsFree plain.feed 70 0 groups
 
+-- an F says that the feed rate is over 0
+abbrev pub rate_of : Bool → Option Bool
+rate_of feed = if feed then Some true else None
+
 -- the words of a line have said this, in units, and no more
 pub record Says (unit : LengthUnit) (line : ℕ) (plain : PlainLine) (s : Said) : Type 0 where
   pub x : IsAxis unit line plain.x s.x
@@ -74,6 +81,10 @@ pub record Says (unit : LengthUnit) (line : ℕ) (plain : PlainLine) (s : Said) 
   pub millimetres : s.millimetres ≡ false
   pub absolute : s.absolute ≡ false
   pub ends : s.ends ≡ false
+  pub changes : s.changes ≡ false
+  pub spindle : s.spindle ≡ None
+  pub speed : s.speed ≡ None
+  pub rate : s.rate ≡ rate_of plain.feed
   pub free : AreFree plain s.groups
 
 abbrev pub one_if : Bool → ℕ
@@ -97,8 +108,14 @@ pub record Goes (unit : LengthUnit) (line : ℕ) (positioned : Bool) (w : Word) 
 
 -- ---- the move
 
--- a line that is only a move changes neither the frame nor the settings, and there is room for its move
+-- all that a feed needs is there, where it is asked for
+abbrev pub HasDrive : Bool → Drive → Type 0
+HasDrive asked d = (if asked then d else full_drive) ≡ full_drive
+
+-- a line that is only a move changes neither the frame nor the settings, and there is room for its move; the tool's place is known, and what a feed needs is there
 pub record IsReady (p : Progress) : Type 0 where
+  pub place : known_of p ≡ All
+  pub drive : HasDrive p.rules.needs_spindle p.drive
   pub few : p.moves < MAX_MOVES
   pub frame : (blank : Bool) → frame_after p.frame blank ≡ p.frame
   pub millimetres : p.millimetres ≡ true
@@ -114,12 +131,13 @@ pub record IsEnd (p : Progress) (plain : PlainLine) (m : PlainMove) : Type 0 whe
   pub to : m.to ≡ plain_target p.here plain
 
 -- the move is made, and a program goes on
-abbrev pub made_plain : Progress → PlainMove → Result (Progress × Option Move) NgcFault
+abbrev pub made_plain : Progress → PlainMove → Result (Progress × List Move) NgcFault
 made_plain p m = made_move (record p { mode = On m.kind; ended = false }) m.kind m.to
 
 -- all that a line does is this move
 pub record MovesTo (p : Progress) (l : Line) (m : PlainMove) : Type 0 where
   pub moves : after_words p l ≡ made_plain p m
+  pub place : known_of p ≡ All
   pub few : p.moves < MAX_MOVES
   pub in_range : IsInUnitRange p.unit m.to
 
@@ -164,9 +182,10 @@ abbrev pub ReadsAxis : LengthUnit → ℕ → List ℕ → ℕ → ℕ → Optio
 ReadsAxis unit line bytes place letter None end = end ≡ place
 ReadsAxis unit line bytes place letter (Some units) end = AxisWord unit line bytes place letter units end
 
--- the last word of the line stands at the place, and is a feed rate, whose letter is 70
+-- the last word of the line stands at the place, and is a feed rate over 0, whose letter is 70
 pub record FeedWord (bytes : List ℕ) (place : ℕ) : Type 0 where
   pub num : Num
+  pub over : is_over_zero num ≡ true
   pub letter_is : slice_index bytes place ≡ 70
   pub word : (l : Line) → is_word_letter (slice_index bytes place) ≡ true → length l.words < 32 → EndsWord bytes (length bytes)
       → line_from l bytes place ≡ line_from (and_word l (to_ascii_uppercase (slice_index bytes place)) num) bytes (length bytes)

@@ -1,8 +1,10 @@
 -- The parts of the reading of three texts.
 use Rattle.std.specs.Prelude.{◌≡◌, ◌⊎◌, ℕ, ℤ, ◌<ℤ◌, List, Ok, Err}
+use Rattle.mill_base.specs.Covers.{IsUnder}
 use Rattle.mill_base.specs.declared.points.Tri.{Tri}
 use Rattle.mill_job.specs.Columns.{home}
 use Rattle.mill_job.specs.declared.fields.JobFields.{JobFields}
+use Rattle.mill_load.specs.Programs.{rules_of}
 use Rattle.mill_ngc.specs.Programs.{program_of}
 use Rattle.mill_block.specs.declared.fault.NgcFault.{NgcFault}
 use Rattle.mill_part.specs.Tops.{IsTop}
@@ -39,10 +41,28 @@ pub record IsRefusedFor (job : JobFields) (text : List ℕ) (told : RawVerdict) 
 abbrev pub IsPartCause : JobFields → List ℕ → RawVerdict → Fault → Type 0
 IsPartCause job text told kind = IsOutOfMemory told kind ⊎ IsRefusedFor job text told kind
 
+-- the text reads as a part that is over the job's top, and its greatest height is told
+pub record IsTooHigh (job : JobFields) (text : List ℕ) (told : RawVerdict) (kind : Fault) : Type 0 where
+  pub part : List Tri
+  pub read : IsPartText job text part
+  pub height : ℤ
+  pub high : IsHighFor job part height
+  pub kind_ok : kind ≡ fault.PartTop
+  pub told_ok : told ≡ record untold { height = height }
+
+-- the text reads as this part, which isn't over the job's top
+pub record IsFitPart (job : JobFields) (text : List ℕ) (part : List Tri) : Type 0 where
+  pub read : IsPartText job text part
+  pub under : IsUnder part job.top
+
+-- why there is no such part
+abbrev pub IsUnfitPart : JobFields → List ℕ → RawVerdict → Fault → Type 0
+IsUnfitPart job text told kind = IsPartCause job text told kind ⊎ IsTooHigh job text told kind
+
 -- the text is refused as a program for the job
 pub record IsNoProgram (job : JobFields) (text : List ℕ) (told : RawVerdict) (kind : Fault) : Type 0 where
   pub first : NgcFault
-  pub refused : program_of (home job) job.unit text ≡ Err first
+  pub refused : program_of (home job) job.unit (rules_of job) text ≡ Err first
   pub kind_ok : kind ≡ fault.Program
   pub told_ok : told ≡ record untold { line = line_of_program first }
 

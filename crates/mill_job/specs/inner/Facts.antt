@@ -3,11 +3,14 @@ use mathlib.Core.HLevel.{collapsible→set}
 use mathlib.Core.Sum.{⊎_set}
 use Rattle.std.proofs.Props.{props}
 use Rattle.std.proofs.Common.{◌≡◌, ◌⊎◌, ◌∙◌, inl, inr, ap, refl, sym}
-use Rattle.std.specs.Prelude.{ℤ}
+use Rattle.std.specs.Prelude.{ℤ, List}
 use Rattle.mill_base.specs.Sizes.{IsCutter}
 use Rattle.mill_base.specs.declared.cutter.Cutter.{Cutter}
 use Rattle.mill_base.specs.declared.cutter.Cutter.TheVariants.{Flat, Ball, Cone}
+use Rattle.mill_base.specs.declared.unit.Unit.{Unit}
+use Rattle.mill_job.specs.Fixtures.{AreFixtures}
 use Rattle.mill_job.specs.Jobs.{HasRoom, HolderHasRoom}
+use Rattle.mill_job.specs.declared.fixtures.Fixture.{Fixture}
 use Rattle.mill_job.specs.declared.fields.JobFields.{JobFields}
 
 -- that a cutter is in range has at most one proof
@@ -46,4 +49,8 @@ pub Cutter-set : IsSet Cutter
 Cutter-set = collapsible→set (λ x y p. sym (back x) ∙ ap cutter_with (ap numbers p) ∙ back y)
     (λ x y p q. ap (λ z. sym (back x) ∙ ap cutter_with z ∙ back y) (⊎_set (Prim.hlevel props) (⊎_set (Prim.hlevel props) (Prim.hlevel props)) (numbers x) (numbers y) (ap numbers p) (ap numbers q)))
 
-pub ruleset job_props = (props, IsCutter-prop, Cutter-set, HasRoom-prop, HolderHasRoom-prop)
+pub AreFixtures-prop : (unit : Unit) (fixtures : List Fixture) → IsProp (AreFixtures unit fixtures)
+unfolding AreFixtures
+AreFixtures-prop unit fixtures = Prim.hlevel props
+
+pub ruleset job_props = (props, IsCutter-prop, Cutter-set, HasRoom-prop, HolderHasRoom-prop, AreFixtures-prop)

@@ -6,6 +6,8 @@ use Rattle.mill_base.specs.declared.cutter.Cutter.{Cutter}
 use Rattle.mill_base.specs.declared.unit.Unit.{Unit}
 use Rattle.mill_job.specs.Cutters.{shape_of}
 use Rattle.mill_job.specs.Documents.{snap_of}
+use Rattle.mill_job.specs.Fixtures.{fixtures_at, fixtures_fault}
+use Rattle.mill_job.specs.Habits.{flag_at, flag_fault, start_of, start_texts}
 use Rattle.mill_job.specs.Holders.{holder_fault, holder_of}
 use Rattle.mill_job.specs.Tables.{are_levels, area_of, array_fault, array_fault_if_there, coordinate_fault, is_area, is_place, levels_of, number_at, number_fault, number_fault_if_there, number_given, number_or, numbers_at, place_of, text_fault_if_there}
 use Rattle.mill_job.specs.declared.cutter.Outline.{Outline}
@@ -94,6 +96,9 @@ extras_faults unit ms =
     ∷ number_fault_if_there key.Slack (pos 0) MAX_SLACK ms
     ∷ number_fault_if_there key.Overcut (pos 0) MAX_OVERCUT ms
     ∷ number_fault_if_there key.Graze (pos 0) MAX_GRAZE ms
+    ∷ fixtures_fault unit ms
+    ∷ text_fault_if_there key.Start start_texts ms
+    ∷ flag_fault key.Spindle ms
     ∷ []
 
 abbrev pub extras_of : Members → Extras
@@ -105,6 +110,9 @@ extras_of ms = record {
   slack = number_or key.Slack (pos 0) ms;
   overcut = number_or key.Overcut (pos 0) ms;
   graze = number_given key.Graze ms;
+  keep_out = fixtures_at ms;
+  start = start_of ms;
+  spindle = flag_at key.Spindle ms;
 }
 
 -- the job of what all of them say
@@ -134,4 +142,7 @@ job_of_groups unit cutter space measure paths extras = record {
   slack = extras.slack;
   overcut = extras.overcut;
   graze = extras.graze;
+  keep_out = extras.keep_out;
+  start = extras.start;
+  spindle = extras.spindle;
 }

@@ -5,6 +5,7 @@ use Rattle.mill_base.specs.Sizes.{IsCutter}
 use Rattle.mill_base.specs.Solids.{IsSolid}
 use Rattle.mill_base.specs.Units.{greatest_of}
 use Rattle.mill_base.specs.declared.limits.TheConstants.{MAX_RADIUS}
+use Rattle.mill_job.specs.Fixtures.{AreFixtures}
 use Rattle.mill_job.specs.Jobs.{IsFrom}
 use Rattle.mill_job.specs.Tables.{IsArea, IsPlace}
 use Rattle.mill_job.specs.declared.cutter.Outline.{Outline}
@@ -22,6 +23,7 @@ pub record IsRanged (job : JobFields) : Type 0 where
   pub cutter_ok : IsCutter job.cutter
   pub floor_ok : Within (greatest_of job.unit) job.floor
   pub top_ok : Within (greatest_of job.unit) job.top
+  pub clear_ok : Within (greatest_of job.unit) job.clear
   pub area_ok : IsArea job.unit job.area
   pub pitch_ok : IsFrom (pos 1) MAX_DISTANCE job.pitch
   pub layer_ok : IsFrom (pos 0) (pos (greatest_of job.unit)) job.layer
@@ -71,3 +73,4 @@ pub record AreExtras (unit : Unit) (extras : Extras) : Type 0 where
   pub slack_ok : IsFrom (pos 0) MAX_SLACK extras.slack
   pub overcut_ok : IsFrom (pos 0) MAX_OVERCUT extras.overcut
   pub graze_ok : IfSome extras.graze (IsFrom (pos 0) MAX_GRAZE)
+  pub keep_out_ok : AreFixtures unit extras.keep_out

@@ -10,6 +10,7 @@ use Rattle.mill_decimal.specs.Decimals.{read_as}
 use Rattle.mill_decimal.specs.declared.snap.Snap.TheVariants.{Exact}
 use Rattle.mill_io.specs.Readings.{AreHeld, Reading as FileReading}
 use Rattle.mill_io.specs.declared.pieces.PieceEnd.{PieceEnd}
+use Rattle.mill_block.specs.declared.rules.Rules.{Rules}
 use Rattle.mill_ngc.specs.Pieces.{Reading, reading_at, lines_read, fed, MovesSoFar}
 use Rattle.mill_part.specs.Tops.{IsTop}
 use Rattle.mill_job.specs.declared.fields.JobFields.{JobFields}
@@ -24,24 +25,24 @@ use Rattle.mill_load.specs.Setup.{Fits, IsTooLong}
 -- ---- a program's file, in pieces
 
 -- a reader has taken this text from this start and in this unit, and made these moves
-pub record HasTaken (start : Pt3) (unit : LengthUnit) (reader : Reading) (moves : List Move) (text : List ℕ) : Type 0 where
-  pub all : (reader, moves) ≡ fed (reading_at start unit, []) text
+pub record HasTaken (start : Pt3) (unit : LengthUnit) (asked : Rules) (reader : Reading) (moves : List Move) (text : List ℕ) : Type 0 where
+  pub all : (reader, moves) ≡ fed (reading_at start unit asked, []) text
   pub lines : lines_read reader ≤ length text
-  pub moves_ok : MovesSoFar start unit reader moves
+  pub moves_ok : MovesSoFar start unit asked reader moves
 
 -- it has taken the whole text of a file, within the limit; where the file is told, this is it
-pub record TakesFile (start : Pt3) (unit : LengthUnit) (told : Option (List ℕ)) (reader : Reading) (moves : List Move) : Type 0 where
+pub record TakesFile (start : Pt3) (unit : LengthUnit) (asked : Rules) (told : Option (List ℕ)) (reader : Reading) (moves : List Move) : Type 0 where
   pub text : List ℕ
   pub whole : IfSome told (λ bytes. text ≡ bytes)
   pub fits : Fits text
-  pub taken : HasTaken start unit reader moves text
+  pub taken : HasTaken start unit asked reader moves text
 
 -- it has taken the front of the file of this name, whatever the files hold, if they hold what each read gave from one time to another
-pub record TakesFront (start : Pt3) (unit : LengthUnit) (name : List ℕ) (before after : List FileReading) (given : ℕ) (reader : Reading) (moves : List Move) : Type 0 where
+pub record TakesFront (start : Pt3) (unit : LengthUnit) (asked : Rules) (name : List ℕ) (before after : List FileReading) (given : ℕ) (reader : Reading) (moves : List Move) : Type 0 where
   pub text : List ℕ
   pub front : (contents : List ℕ → Option (List ℕ)) → AreHeld contents before after → IfSome (contents name) (λ bytes. text ≡ take (length text) bytes)
   pub size : length text ≡ given
-  pub taken : HasTaken start unit reader moves text
+  pub taken : HasTaken start unit asked reader moves text
 
 -- the pieces of a file within its limit, before the first
 pub record IsFirst (limit given : ℕ) (end : Option (Result Unit PieceEnd)) : Type 0 where

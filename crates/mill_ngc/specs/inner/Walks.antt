@@ -7,16 +7,17 @@ use Rattle.mill_ngc.specs.Programs.{lines_of}
 use Rattle.mill_ngc.specs.Lines.{IsPlace, with_ends}
 use Rattle.mill_ngc.specs.declared.place.LineSpan.{LineSpan}
 use Rattle.mill_ngc.specs.declared.walk.Walk.{Walk}
+use Rattle.mill_block.specs.declared.rules.Rules.{Rules}
 
 -- these lines have been read: the next has this number, and begins at `from`
-pub record HasWalked (start : Pt3) (unit : Unit) (text : List ℕ) (from line : ℕ) (walk : Walk) : Type 0 where
+pub record HasWalked (start : Pt3) (unit : Unit) (rules : Rules) (text : List ℕ) (from line : ℕ) (walk : Walk) : Type 0 where
   pub done : List (List ℕ)
   pub lines : lines_of text ≡ done ++ lines_of (drop from text)
   pub count : line ≡ length done + 1
   pub begins : from ≡ length (with_ends done)
   pub few : length done ≤ from
   pub inside : from ≤ length text
-  pub read : (walk.reader, walk.moves.items) ≡ fed (reading_at start unit, []) (with_ends done)
+  pub read : (walk.reader, walk.moves.items) ≡ fed (reading_at start unit rules, []) (with_ends done)
   pub room : lines_read walk.reader ≤ from
   pub even : length walk.places.items ≡ length walk.moves.items
-  pub each : (k : ℕ) (other : LineSpan) → k < length walk.places.items → IsPlace start unit text k (slice_index_or walk.places.items k other)
+  pub each : (k : ℕ) (other : LineSpan) → k < length walk.places.items → IsPlace start unit rules text k (slice_index_or walk.places.items k other)

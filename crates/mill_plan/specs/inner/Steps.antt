@@ -1,14 +1,14 @@
 -- What the planner's steps come to. It serves the functions within.
-use Rattle.std.specs.Prelude.{◌≡◌, ◌⊎◌, ◌<◌, List, [], ◌++◌, length, ⊤}
+use Rattle.std.specs.Prelude.{◌≡◌, ◌⊎◌, ◌<◌, List, ◌++◌, length, ⊤}
 use Rattle.mill_base.specs.declared.points.Tri.{Tri}
 use Rattle.mill_base.specs.declared.motion.Move.{Move}
 use Rattle.mill_job.specs.Columns.{home}
 use Rattle.mill_job.specs.declared.fields.JobFields.{JobFields}
 use Rattle.mill_links.specs.Links.{way_home}
-use Rattle.mill_links.specs.Tours.{IsTour, last_place}
+use Rattle.mill_links.specs.Tours.{GoesThrough, last_place}
 use Rattle.mill_links.specs.declared.visit.Visit.{Visit}
 use Rattle.mill_paths.specs.Unique.{BeginsTour}
-use Rattle.mill_plan.specs.Plans.{IsOverNodes}
+use Rattle.mill_plan.specs.Plans.{IsOverMoves, IsOverNodes}
 use Rattle.mill_base.specs.declared.limits.TheConstants.{MAX_MOVES}
 use Rattle.mill_plan.specs.declared.fault.PlanFault.{PlanFault}
 use Rattle.mill_plan.specs.declared.fault.PlanFault.TheVariants.{TooManyNodes, TooManyMoves, Uncut, Held, WantOfMemory}
@@ -21,16 +21,24 @@ IsNodesFault job (Uncut row col top) = ⊥
 IsNodesFault job (Held number row col) = ⊥
 IsNodesFault job WantOfMemory = ⊥
 
--- the links to the first of the visits, from home, are too many moves
+-- a fault of the moves that keep off all this tells of too many nodes or moves, or of want of memory alone
+abbrev pub IsMovesFault : JobFields → List Tri → PlanFault → Type 0
+IsMovesFault job all (TooManyNodes nodes) = IsOverNodes job nodes
+IsMovesFault job all TooManyMoves = IsOverMoves job all
+IsMovesFault job all (Uncut row col top) = ⊥
+IsMovesFault job all (Held number row col) = ⊥
+IsMovesFault job all WantOfMemory = ⊤
+
+-- already the moves from home through the first of the visits are too many
 pub record IsTourOver (job : JobFields) (part : List Tri) (visits : List Visit) : Type 0 where
   pub begun : List Move
-  pub begins : BeginsTour job part (home job) visits begun
+  pub begins : BeginsTour job part visits begun
   pub many : MAX_MOVES < length begun
 
 -- the moves go from home through the visits, and home again
 pub record IsRound (job : JobFields) (part : List Tri) (visits : List Visit) (moves : List Move) : Type 0 where
   pub toured : List Move
-  pub tour : IsTour job part [] (home job) visits toured
+  pub tour : GoesThrough job part visits toured
   pub joined : moves ≡ toured ++ way_home job (last_place (home job) visits)
 
 -- the moves of a round are too many

@@ -4,7 +4,7 @@ ghost use Rattle.std.specs.Prelude.{◌<◌};
 use super::HOME;
 use crate::tables::{same, with_blanks};
 use mill_base::{Move, Unit};
-use mill_ngc::{NgcFault, Reader};
+use mill_ngc::{NgcFault, Reader, Rules};
 use mill_tables::{halves, with_bytes};
 use std::alloc::{AllocError, Global};
 use std::process::Abort;
@@ -43,7 +43,7 @@ impl Dice {
 // Reads a text in two pieces, the first of `cut` bytes.
 fn read_halves(alloc: Global, text: &[u8], cut: usize) -> Told {
     let mut moves = Vec::new(alloc);
-    let mut reader = Reader::new(HOME, Unit::Hundredth);
+    let mut reader = Reader::new(HOME, Unit::Hundredth, Rules::NONE);
     let (head, tail) = text.split_at(cut.min(text.len()));
     let first = reader.feed(head, &mut moves).err();
     let second = reader.feed(tail, &mut moves).err();
@@ -72,7 +72,7 @@ fn read_pieces<R: Abort>(rt: &R, alloc: Global, text: &[u8], most: usize, dice: 
     requires { 0 < most }
 {
     let mut moves = Vec::new(alloc);
-    let mut reader = Reader::new(HOME, Unit::Hundredth);
+    let mut reader = Reader::new(HOME, Unit::Hundredth, Rules::NONE);
     let mut fault = None;
     let mut rest = text;
     while !rest.is_empty() {

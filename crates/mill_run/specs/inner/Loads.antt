@@ -1,9 +1,11 @@
 -- What reading a list, and reading all that a command needs, comes to.
-use Rattle.std.specs.Prelude.{◌≤◌, ◌<◌, ℕ, List, [], length, take, All, Option, IfSome, Result, Ok, Err}
+use Rattle.std.specs.Prelude.{◌≡◌, ◌⊎◌, ◌≤◌, ◌<◌, ℕ, true, false, List, [], length, take, All, Option, IfSome, Result, Ok, Err}
 use Rattle.std.specs.Global.{Vec}
 use Rattle.mill_base.specs.declared.limits.TheConstants.{MAX_WORKERS}
 use Rattle.mill_base.specs.Covers.{IsUnder}
+use Rattle.mill_job.specs.declared.fault.JobFault.TheVariants.{Missing}
 use Rattle.mill_job.specs.declared.fields.JobFields.{JobFields}
+use Rattle.mill_job.specs.declared.key.Key.TheVariants.{Feed}
 use Rattle.mill_job.specs.declared.step_limits.TheConstants.{MAX_STEPS}
 use Rattle.mill_job.specs.declared.step.Step.{Step}
 use Rattle.mill_verify.specs.Files.{File as CutFile, IsFileOf}
@@ -12,15 +14,17 @@ use Rattle.mill_load.specs.declared.file.File.{File}
 use Rattle.mill_load.specs.declared.file.File.TheVariants.{Job as JobFile, Part as PartFile, List as ListFile, StepProgram}
 use Rattle.mill_load.specs.declared.load.LoadFault.{LoadFault}
 use Rattle.mill_load.specs.declared.load.LoadFault.TheVariants.{Memory, ReadFault, Unfit}
-use Rattle.mill_load.specs.declared.load.Unfit.TheVariants.{TooLong, ListRefused}
+use Rattle.mill_load.specs.declared.load.Setup.{Setup}
+use Rattle.mill_load.specs.declared.load.Unfit.TheVariants.{TooLong, JobRefused, ListRefused}
 use Rattle.mill_run.specs.declared.verify.Loaded.{Loaded}
 use Rattle.mill_run.specs.declared.rest.Listed.{Listed}
 use Rattle.mill_run.specs.declared.stock.Cutting.{Cutting}
+use Rattle.mill_run.specs.Plan.{NeedsNoFeed, IsUnfitPlan}
 use Rattle.mill_run.specs.Rest.{RestTexts, rest_texts, FailsAtStep, ReadsRest, ReadsSteps, step_at, IsListText, IsRefusedList, IsUnfitRest, IsReadBeforeRest}
-use Rattle.mill_load.specs.Setup.{IsTooLongJob}
+use Rattle.mill_load.specs.Setup.{SetupTexts, IsTooLongJob, ReadsSetup, IsReadBeforeWith}
 use Rattle.mill_run.specs.Stock.{StockTexts, ReadsStock, IsUnfitStock, IsReadBeforeStock}
 use Rattle.mill_answer.specs.Verify.{Texts, Reads, IsUnfitProgram, IsReadBeforeProgram}
-use Rattle.mill_load.specs.Loads.{AreMoves, LoadsProgram, NamesFault}
+use Rattle.mill_load.specs.Loads.{AreMoves, IsSetup, LoadsProgram, LoadsUnder, NamesFault}
 use Rattle.mill_run.specs.Words.{RestFiles}
 
 -- ---- a list and its programs
@@ -57,6 +61,19 @@ FailsInRest contents names log (ReadFault (StepProgram k)) = FailsAtStep (rest_t
 FailsInRest contents names log (ReadFault file) = LastFails (rest_name names file) log
 FailsInRest contents names log (Unfit fault) = Unit {0}
 
+-- ---- job and part of a plan
+
+-- the part of a job that asks for no spindle, or why there is none; a job that asks for one is refused before
+abbrev pub LoadsFed : JobFields → Option (List ℕ) → Result Setup LoadFault → Type 0
+LoadsFed job told r = ((job.spindle ≡ false) × LoadsUnder job told r) ⊎ ((job.spindle ≡ true) × (r ≡ Err (Unfit (JobRefused (Missing Feed)))))
+
+-- job and part, or why there are none
+abbrev pub LoadsPlan : SetupTexts → Result Setup LoadFault → Type 0
+LoadsPlan texts (Ok s) = ReadsSetup texts s.job.fields s.part
+LoadsPlan texts (Err Memory) = Unit {0}
+LoadsPlan texts (Err (ReadFault file)) = IsReadBeforeWith (NeedsNoFeed texts) file
+LoadsPlan texts (Err (Unfit fault)) = IsUnfitPlan texts fault
+
 -- ---- all that a command needs
 
 -- job, part and moves, or why there are none
@@ -81,6 +98,11 @@ LoadsFiles texts (Err (ReadFault file)) = IsReadBeforeRest texts file
 LoadsFiles texts (Err (Unfit fault)) = IsUnfitRest texts fault
 
 -- ---- what was read
+
+-- all that the planner asks for
+pub record CanBePlanned (s : Setup) : Type 0 where
+  pub under : IsSetup s
+  pub still : s.job.fields.spindle ≡ false
 
 -- all that the verifier asks for
 pub record IsReady (l : Loaded) : Type 0 where

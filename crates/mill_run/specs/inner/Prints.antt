@@ -4,6 +4,7 @@ use Rattle.mill_base.specs.declared.unit.Unit.{Unit as LengthUnit}
 use Rattle.mill_command.specs.declared.refusal.Refusal.{Refusal}
 use Rattle.mill_command.specs.declared.refusal.Refusal.TheVariants as refusal
 use Rattle.mill_drop.specs.Drops.{IsDropHeight}
+use Rattle.mill_obstacles.specs.Faces.{obstacles_of}
 use Rattle.mill_io.specs.Views.{SinkView}
 use Rattle.mill_plan.specs.Plans.{PlanAnswer, too_many_nodes, too_many_moves, uncut, held, IsPlanAnswer}
 use Rattle.mill_plan.specs.declared.fault.PlanFault.{PlanFault}
@@ -87,11 +88,14 @@ pub record PrintsListVerdict (l : Listed) (status : ℕ) (sink sink_after : Sink
 abbrev pub TriesListVerdict : Listed → ℕ → SinkView → SinkView → Type 0
 TriesListVerdict l status sink sink_after = PrintsListVerdict l status sink sink_after ⊎ PrintsOutcome no_memory status sink sink_after
 
--- the drop height at a place is printed, or that memory was short
+-- the drop height at a place over part and fixtures is printed, or that memory was short
 pub record PrintsHeight (s : Setup) (place : Place) (status : ℕ) (sink sink_after : SinkView) : Type 0 where
   pub height : ℤ
-  pub is : IsDropHeight (tool_of s.job.fields) s.part place.x place.y s.job.fields.floor height
+  pub is : IsDropHeight (tool_of s.job.fields) (obstacles_of s.job.fields s.part) place.x place.y s.job.fields.floor height
   pub printed : PrintsOr (answered (dropped s.job.fields.unit height)) status sink sink_after
+
+abbrev pub TriesHeight : Setup → Place → ℕ → SinkView → SinkView → Type 0
+TriesHeight s place status sink sink_after = PrintsHeight s place status sink sink_after ⊎ PrintsOutcome no_memory status sink sink_after
 
 -- the answer at a height is printed, or that memory was short
 pub record PrintsLevel (s : Setup) (height : ℤ) (status : ℕ) (sink sink_after : SinkView) : Type 0 where

@@ -16,6 +16,10 @@ drop job beside --x=1 --y=1 => 0 drop 0.00
 drop held-50 beside --x=1 --y=1 => 0 drop 2.50
 drop held-300 beside --x=1 --y=1 => 0 drop 0.00
 drop wide empty --x=0 --y=0 => 0 drop 0.00
+drop wide dot --x=0.51 --y=0 => 0 drop 0.50
+drop boxed dot --x=0.5 --y=0 => 0 drop 0.50
+drop boxed dot --x=0.51 --y=0 => 0 drop 2.20
+drop boxed dot --x=2.5 --y=0 => 0 drop 4.00
 drop wide corner --x=0.005 --y=5 => 4 refused word x off-grid
 drop wide corner --x=1 --y=1310.72 => 4 refused word y out-of-range
 drop wide corner --x= --y= => 4 refused word x spelling

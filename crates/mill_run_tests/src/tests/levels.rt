@@ -10,11 +10,13 @@ level --workers=2 wide point --z=0.3e1 => 0 chains 0
 level --workers=2 wide peak --z=0 => 0 open 2\n1.00 0.00\n0.00 1.00\nchains 1
 level --workers=2 slim-100 wall --z=0 => 0 open 5\n0.80 2.00\n0.80 1.50\n0.80 1.00\n0.80 0.50\n0.80 0.00\nchains 1
 level --workers=2 wide empty --z=0 => 0 chains 0
+level --workers=2 vice empty --z=0 => 0 closed 12\n3.50 5.00\n3.63 4.00\n4.00 3.63\n5.00 3.50\n6.00 3.63\n6.37 4.00\n6.50 5.00\n6.37 6.00\n6.00 6.37\n5.00 6.50\n4.00 6.37\n3.63 6.00\nchains 1
+level --workers=2 vice empty --z=2.2 => 0 chains 0
 level --workers=2 job empty --z=1310.71 => 0 chains 0
 level --workers=2 thousandths peak --z=2.999 => 0 open 4\n1.500 0.000\n1.119 1.000\n1.000 1.119\n0.000 1.500\nchains 1";
 
 #[test]
-fn goes_round_the_part(rt: HostRuntime) -> Result<(), Fail> {
+fn goes_round_part_and_fixtures(rt: HostRuntime) -> Result<(), Fail> {
     each_says(&rt, rt.alloc(), LEVELS)
 }
 

@@ -13,6 +13,8 @@ verify job plate absent => 6 read fault program
 verify garbled absent absent => 4 refused job syntax
 verify job absent absent => 6 read fault part
 plan garbled absent out => 4 refused job syntax
+plan turning absent out => 4 refused job missing feed
+plan job absent out => 6 read fault part
 drop garbled absent --x=0 --y=0 => 4 refused job syntax
 drop job absent --x=0 --y=0.005 => 4 refused word y off-grid
 drop absent absent --x=0 --y=0.005 => 6 read fault job

@@ -2,14 +2,14 @@
 use Rattle.std.specs.Prelude.{◌≡◌, ℕ, ◌+◌, ◌^◌, ◌<◌, true, List, length, slice_get, Option, Some, None}
 use Rattle.mill_base.specs.declared.motion.Kind.{Kind}
 use Rattle.mill_board.specs.declared.work.Held.{Held}
-use Rattle.mill_verify.specs.declared.block.PartFail.{PartFail}
+use Rattle.mill_verify.specs.declared.clash.Clash.{Clash}
 use Rattle.mill_dexel.specs.declared.fail.RowFail.{RowFail}
 use Rattle.mill_dexel.specs.declared.fail.RowTest.{RowTest}
 use Rattle.mill_dexel.specs.declared.fail.RowTest.TheVariants as test
 use Rattle.mill_verify.specs.declared.piece.Piece.{Piece}
 use Rattle.mill_verify.specs.declared.piece.Piece.TheVariants.{Block, Stock}
 use Rattle.mill_verify.specs.declared.verdict.Reason.{Reason}
-use Rattle.mill_verify.specs.Reasons.{part_reason, stock_reason}
+use Rattle.mill_verify.specs.Reasons.{clash_reason, stock_reason}
 
 -- a held piece has failed at this turn
 abbrev pub HasFailed : ℕ → Held Piece → Type 0
@@ -52,7 +52,7 @@ pub record IsFirstFailed (t : ℕ) (pieces : List (Held Piece)) (n : ℕ) : Type
   pub cut : test_of held.piece ≡ test.Holder → NoneFailedBy test.Cut t pieces (length pieces)
   pub before : NoneFailedBy (test_of held.piece) t pieces n
 
--- why a piece has failed at a turn, a move of this kind, where rows come after so many blocks: a block names a triangle, and a row a column
+-- why a piece has failed at a turn, a move of this kind, where rows come after so many blocks: a block names a triangle or a fixture, and a row a column
 abbrev pub IsReasonOf : Kind → ℕ → ℕ → Piece → Reason → Type 0
-IsReasonOf kind blocks t (Block m b) reason = (found : PartFail) × (b.failed ≡ Some found) × (reason ≡ part_reason t found)
+IsReasonOf kind blocks t (Block m b) reason = (found : Clash) × (b.failed ≡ Some found) × (reason ≡ clash_reason t found)
 IsReasonOf kind blocks t (Stock m r) reason = (fail : RowFail) × (r.failed ≡ Some fail) × (m ≡ blocks + r.row) × (m < 2 ^ 32) × (reason ≡ stock_reason fail.test kind t r.row fail.col fail.leaf)

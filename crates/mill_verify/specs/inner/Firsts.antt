@@ -26,7 +26,7 @@ pub record IsStopped (job : JobFields) (part : List Tri) (start : Stock) (moves 
   pub rejects : IsRejectionOn job part start moves reason
   pub names : NamesLeaf job part start moves reason
 
--- a block as move k meets it: all its moves before that have had their turn, and cleared the part
+-- a block as move k meets it: all its moves before that have had their turn, and cleared the part and the fixtures
 abbrev pub block_before : BlockState → ℕ → BlockState
 block_before b k = record b { next = k }
 

@@ -7,14 +7,13 @@ use Rattle.mill_base.specs.Ranges.{MovesInRange}
 use Rattle.mill_board.specs.Works.{IsClosed, Means}
 use Rattle.mill_board.specs.declared.work.Held.{Held}
 use Rattle.mill_job.specs.declared.fields.JobFields.{JobFields}
-use Rattle.mill_job.specs.Jobs.{part_tool_of}
 use Rattle.mill_job.specs.Columns.{row_count}
 use Rattle.mill_dexel.specs.Rows.{RowState, fresh_row}
 use Rattle.mill_dexel.specs.Stocks.{IsStockOf}
 use Rattle.mill_dexel.specs.Tops.{Stock as OneStock}
 use Rattle.mill_dexel.specs.Turns.{ClearsRow, IsRowStopped, move_at, row_before}
 use Rattle.mill_verify.specs.Blocks.{IsBlockStopped, block_count, block_of}
-use Rattle.mill_gouge.specs.Gouges.{ToolPassesPart}
+use Rattle.mill_verify.specs.Clashes.{IsClear}
 use Rattle.mill_verify.specs.inner.Firsts.{block_before}
 use Rattle.mill_verify.specs.inner.Readiness.{start_stock}
 use Rattle.mill_verify.specs.declared.piece.Piece.{Piece}
@@ -63,9 +62,9 @@ abbrev pub IsPieceAt : TestsShown → ℕ → ℕ → Piece → Type 0
 IsPieceAt w n t (Block m b) = (m ≡ n) × (n < blocks_of w) × (b ≡ block_before (block_of w.turns n) t)
 IsPieceAt w n t (Stock m r) = (m ≡ n) × (n ≡ blocks_of w + r.row) × (r ≡ row_before w.job w.moves (fresh_row w.job (stock_under w) r.row) t)
 
--- move t passes the tests of piece n: a block's are those against the part, and a row's those against the row's columns
+-- move t passes the tests of piece n: a block's are those against the part and the fixtures, and a row's those against the row's columns
 pub record PassesTest (w : TestsShown) (n t : ℕ) : Type 0 where
-  pub part : n < blocks_of w → ToolPassesPart (part_tool_of w.job) (move_at w.moves t) w.part
+  pub block : n < blocks_of w → IsClear w.job w.part (move_at w.moves t)
   pub stock : (j : ℕ) → n ≡ blocks_of w + j → ClearsRow w.job (row_before w.job w.moves (fresh_row w.job (stock_under w) j) t) (move_at w.moves t)
 
 -- piece n as its turn t leaves it, which it failed

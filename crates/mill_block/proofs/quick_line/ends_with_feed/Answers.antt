@@ -5,4 +5,4 @@ pub returns : goal.returns
 returns c taken =
     let letter : get_or c.args.line.now c.args.place 0 ≡ 70 = search rules in
     let end : c.in-Some.number.end ≡ length c.args.line.now = search (rules, arith) in
-    inr (record { num = c.in-Some.number.num; letter_is = letter; word = rw end at c.in-Some.ensures.word })
+    inr (record { num = c.in-Some.number.num; over = search rules; letter_is = letter; word = rw end at c.in-Some.ensures.word })

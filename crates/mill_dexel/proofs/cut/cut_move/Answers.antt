@@ -18,20 +18,20 @@ use Rattle.mill_dexel.proofs.cut.cut_move.Goals as goal
 pub returns-then-is_beyond : goal.returns-then-is_beyond
 returns-then-is_beyond c =
     let inner = inner_of c.args.job.now.fields in
-    let radius = to_z-of_z w32 c.radius.result (search rules) ∙ c.radius.ensures ∙ ap radius_of c.cutter-cutter.ensures.value ∙ ap (λ (s : Solid). radius_of s.cutter) c.inner.ensures in
+    let radius = to_z-of_z w32 c.radius.result (search rules) ∙ c.radius.ensures ∙ ap radius_of c.cutter-cutter.ensures.value ∙ ap (λ (s : Solid). radius_of s.cutter) c.inner-inner.ensures in
     move_keeps c.args.job.now.fields c.args.number c.args.step.now c.args.tops.now (inner_ok c.args.job.now.fields c.args.job.now.is_job).cutter_ok
     (beyond_same _ _ _ _ (radius_of inner.cutter) c.args.step.now.from.y c.args.step.now.to.y (column_y c.args.job.now.fields c.args.number)
     radius (omega (arith, ints)) (omega (arith, ints)) (omega (arith, ints)) (c.is_beyond.ensures.yes c.if-is_beyond.true))
 
 -- The lift, as it is stored, is the inner solid's.
-pub raised-requires-clause-lift_least : goal.raised-requires-clause-lift_least
-raised-requires-clause-lift_least c =
-    let lift = to_z-of_z w32 c.lift-lift.result (search rules) ∙ c.lift-lift.ensures.value ∙ ap (λ (s : Solid). s.lift) c.inner-2.ensures in
+pub raise-requires-clause-lift_least : goal.raise-requires-clause-lift_least
+raise-requires-clause-lift_least c =
+    let lift = to_z-of_z w32 c.lift-lift.result (search rules) ∙ c.lift-lift.ensures.value ∙ ap (λ (s : Solid). s.lift) c.inner-inner.ensures in
     subst (λ (l : ℤ). (pos 0) ≤ℤ l) (sym lift) (inner_lift c.args.job.now.fields c.args.job.now.is_job).low
 
-pub raised-requires-clause-lift_most : goal.raised-requires-clause-lift_most
-raised-requires-clause-lift_most c =
-    let lift = to_z-of_z w32 c.lift-lift.result (search rules) ∙ c.lift-lift.ensures.value ∙ ap (λ (s : Solid). s.lift) c.inner-2.ensures in
+pub raise-requires-clause-lift_most : goal.raise-requires-clause-lift_most
+raise-requires-clause-lift_most c =
+    let lift = to_z-of_z w32 c.lift-lift.result (search rules) ∙ c.lift-lift.ensures.value ∙ ap (λ (s : Solid). s.lift) c.inner-inner.ensures in
     subst (λ (l : ℤ). l ≤ℤ pos 3400) (sym lift) (inner_lift c.args.job.now.fields c.args.job.now.is_job).high
 
 pub loop-k-init : goal.loop-k-init
@@ -41,10 +41,10 @@ loop-k-init c =
 pub loop-k-preserved : goal.loop-k-preserved
 loop-k-preserved c =
     let inner = inner_of c.args.job.now.fields in
-    let lift = to_z-of_z w32 c.lift-lift.result (search rules) ∙ c.lift-lift.ensures.value ∙ ap (λ (s : Solid). s.lift) c.inner-2.ensures in
-    let cutter = c.cutter-cutter.ensures.value ∙ ap (λ (s : Solid). s.cutter) c.inner.ensures in
+    let lift = to_z-of_z w32 c.lift-lift.result (search rules) ∙ c.lift-lift.ensures.value ∙ ap (λ (s : Solid). s.lift) c.inner-inner.ensures in
+    let cutter = c.cutter-cutter.ensures.value ∙ ap (λ (s : Solid). s.cutter) c.inner-inner.ensures in
     let sample = c.sample_at-sample.ensures.value ∙ ap (λ (v : Cutter). sample_at v c.args.step.now c.halvings-d.result c.loop-k.k) cutter in
-    let same = c.raised.ensures.value ∙ ap (λ (l : ℤ). raised_sample l c.sample_at-sample.result) lift ∙ ap (raised_sample inner.lift) sample in
+    let same = c.raise.ensures.value ∙ ap (λ (l : ℤ). raised_sample l c.sample_at-sample.result) lift ∙ ap (raised_sample inner.lift) sample in
     samples_go_on c.args.job.now.fields c.args.number c.args.step.now c.halvings-d.result c.loop-k.k c.args.tops.now c.loop-k.tops c.cut_sample.new.tops c.loop-k.invariant
     (subst (λ s. IsCutBy c.args.job.now.fields c.args.number s c.loop-k.tops c.cut_sample.new.tops) same c.cut_sample.ensures)
 

@@ -25,6 +25,6 @@ returns c =
     let moves = c.args.moves.now in
     let number = c.move_number-number.result in
     let there : number < length moves = omega (arith, c.move_number-number.ensures, c.requires.finding.there) in
-    failure_is c.args.job.now.fields c.args.part.now moves c.args.reason.now c.args.line c.args.top c.args.lift number c.test_of.result c.triangle_of.result c.column_of.result c.segment_of.result
-    c.move_number-number.ensures c.test_of.ensures c.triangle_of.ensures (c.column_of.ensures ∙ ap (λ (t : ℤ). column_of c.args.job.now.fields t c.args.reason.now) (to_z-of_z w32 c.args.top c.ranges.top))
+    failure_is c.args.job.now.fields c.args.part.now moves c.args.reason.now c.args.line c.args.top c.args.lift number c.test_of.result c.triangle_of.result c.fixture_number.result c.column_of.result c.segment_of.result
+    c.move_number-number.ensures c.test_of.ensures c.triangle_of.ensures c.fixture_number.ensures (c.column_of.ensures ∙ ap (λ (t : ℤ). column_of c.args.job.now.fields t c.args.reason.now) (to_z-of_z w32 c.args.top c.ranges.top))
     (c.segment_of.ensures ∙ ap (λ (m : Move). segment_of m c.args.reason.now) (get_or_default moves number _ _ there ∙ ap (λ (k : ℕ). move_at moves k) c.move_number-number.ensures))

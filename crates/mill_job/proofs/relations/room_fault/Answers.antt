@@ -10,6 +10,6 @@ returns-in-Some-clause-value c = sym (first-found (slack_faults c.args.job.now c
 
 pub returns-clause-none : goal.returns-clause-none
 returns-clause-none c = λ none. record {
-  room = has_room c.args.job.now c.args.job.now.cutter (c.in_default.ensures.none refl) (c.if-has_low_clear.ensures.no refl);
+  room = has_room c.args.job.now c.args.job.now.cutter (c.in_default.ensures.none refl) (c.if-has_low_clear.ensures.no refl) (c.if-not-clears_fixtures.ensures.yes refl);
   holder_room = c.if-has_close_holder.ensures.no refl;
 }

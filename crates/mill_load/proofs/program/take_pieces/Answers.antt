@@ -14,7 +14,7 @@ pub loop-reader-init : goal.loop-reader-init
 loop-reader-init g c =
     let pieces = c.args.pieces.now in
     let start = g.S.Shelf.shows pieces.shelf.now in
-    let none = front_first c.args.start c.args.unit pieces.name.now start.log c.new-reader.result c.args.moves.now.items c.new-reader.ensures.reading c.new-reader.ensures.moves c.requires.moves in
+    let none = front_first c.args.start c.args.unit c.args.rules pieces.name.now start.log c.new-reader.result c.args.moves.now.items c.new-reader.ensures.reading c.new-reader.ensures.moves c.requires.moves in
     record {
       going = c.requires.first.going;
       name = refl;
@@ -39,7 +39,7 @@ returns-in-Ok-eq0-clause-takes g c = λ contents held.
     let fits : here.given ≤ MAX_FILE_BYTES = omega (arith, here.within, c.loop-reader.invariant.limit) in
     let none : c.in-Ok-eq0.field-0 ≡ 0 = search rules in
     let gives = subst (λ (n : ℕ). IfSome (contents here.name.now) (λ bytes. GivesFrom bytes here.given n c.next.new.buf)) none next.0 in
-    front_whole c.args.start c.args.unit pieces.name.now here.name.now contents start.log before.log here.given c.next.new.buf
+    front_whole c.args.start c.args.unit c.args.rules pieces.name.now here.name.now contents start.log before.log here.given c.next.new.buf
     c.loop-reader.reader c.loop-reader.moves.items c.loop-reader.invariant.name c.loop-reader.invariant.front parts.first gives room fits
 
 pub returns-in-Ok-eq0-clause-store : goal.returns-in-Ok-eq0-clause-store
@@ -58,9 +58,9 @@ loop-reader-preserved g c =
     let before = g.S.Shelf.shows here.shelf.now in
     let after = g.S.Shelf.shows c.next.new.self.shelf.now in
     let text = c.loop-reader.invariant.front.text in
-    let taken : HasTaken c.args.start c.args.unit c.take_piece.new.reader c.take_piece.new.moves.items (text ++ take c.in-Ok.count c.next.new.buf) = c.in_ok-take_piece.ensures c.args.start c.args.unit text c.loop-reader.invariant.front.taken in
-    let front : TakesFront c.args.start c.args.unit pieces.name.now start.log after.log (here.given + c.in-Ok.count) c.take_piece.new.reader c.take_piece.new.moves.items =
-    front_more c.args.start c.args.unit pieces.name.now here.name.now start.log before.log after.log here.given c.in-Ok.count c.next.new.buf
+    let taken : HasTaken c.args.start c.args.unit c.args.rules c.take_piece.new.reader c.take_piece.new.moves.items (text ++ take c.in-Ok.count c.next.new.buf) = c.in_ok-take_piece.ensures c.args.start c.args.unit c.args.rules text c.loop-reader.invariant.front.taken in
+    let front : TakesFront c.args.start c.args.unit c.args.rules pieces.name.now start.log after.log (here.given + c.in-Ok.count) c.take_piece.new.reader c.take_piece.new.moves.items =
+    front_more c.args.start c.args.unit c.args.rules pieces.name.now here.name.now start.log before.log after.log here.given c.in-Ok.count c.next.new.buf
     c.loop-reader.reader c.take_piece.new.reader c.loop-reader.moves.items c.take_piece.new.moves.items c.loop-reader.invariant.name c.loop-reader.invariant.front
     (λ contents held.
     let parts = in_parts contents start.contents before.contents _ _ _ c.loop-reader.invariant.held c.next.ensures.held held in

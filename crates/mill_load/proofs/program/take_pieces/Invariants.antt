@@ -16,7 +16,7 @@ invariant-loop-reader g l = record {
   only : ReadsOnly (g.S.Shelf.shows l.initial.pieces.shelf.now) (g.S.Shelf.shows l.pieces.shelf.now);
   faults : (g.S.Shelf.shows l.pieces.shelf.now).read_faults ≡ (g.S.Shelf.shows l.initial.pieces.shelf.now).read_faults;
   held : AreHeld (g.S.Shelf.shows l.initial.pieces.shelf.now).contents (g.S.Shelf.shows l.initial.pieces.shelf.now).log (g.S.Shelf.shows l.pieces.shelf.now).log;
-  front : TakesFront l.fn.start l.fn.unit l.initial.pieces.name.now (g.S.Shelf.shows l.initial.pieces.shelf.now).log (g.S.Shelf.shows l.pieces.shelf.now).log l.pieces.given l.reader l.moves.items;
+  front : TakesFront l.fn.start l.fn.unit l.fn.rules l.initial.pieces.name.now (g.S.Shelf.shows l.initial.pieces.shelf.now).log (g.S.Shelf.shows l.pieces.shelf.now).log l.pieces.given l.reader l.moves.items;
 }
 
 abbrev pub decreases-loop-reader : goal.decreases-loop-reader

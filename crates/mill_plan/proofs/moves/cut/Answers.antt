@@ -22,8 +22,11 @@ loop-step-preserved c = record {
   rows_ok = c.cut_rows.ensures.rows_ok;
 }
 
-pub returns : goal.returns
-returns c = λ done follow tested.
+pub returns-clause-rows_ok : goal.returns-clause-rows_ok
+returns-clause-rows_ok c = c.loop-step.invariant.rows_ok
+
+pub returns-clause-stock : goal.returns-clause-stock
+returns-clause-stock c = λ done follow tested.
     subst (λ (ms : List Move). IsStock c.args.job.now.fields (done ++ ms) c.loop-step.rows) (take_all c.loop-step.step-index c.args.moves.now c.loop-step-test.false)
     (c.loop-step.invariant.stock done (follow tested))
 

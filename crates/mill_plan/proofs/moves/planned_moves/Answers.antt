@@ -2,8 +2,7 @@ use Rattle.std.proofs.Common.{[]}
 use Rattle.std.proofs.lemmas.Result.{IfErr-weaker, IfOk-weaker}
 use Rattle.mill_job.specs.Columns.{home}
 use Rattle.mill_links.specs.Safety.{GoSafely}
-use Rattle.mill_plan.specs.Plans.{IsPlanFault}
-use Rattle.mill_plan.specs.inner.Steps.{IsRound, IsRoundFault}
+use Rattle.mill_plan.specs.inner.Steps.{IsMovesFault, IsRound, IsRoundFault}
 use Rattle.mill_plan.proofs.Planning.{plan_goes, plan_if_made, round_told}
 use Rattle.mill_plan.proofs.moves.planned_moves.Goals as goal
 
@@ -35,7 +34,7 @@ returns-clause-fault g c =
     let visits = c.in_ok-visits.visits.items in
     let say = rw c.deref.ensures.value at c.in_ok-clear.ensures.say in
     let told = rw (c.deref-2.ensures.value, c.deref-3.ensures.value) at c.round_of.ensures.fault in
-    IfErr-weaker c.round_of.result (IsRoundFault job part visits) (IsPlanFault job part)
+    IfErr-weaker c.round_of.result (IsRoundFault job part visits) (IsMovesFault job part)
     (λ fault h. round_told job part visits fault c.requires.nodes c.in_ok-visits.ensures.list h) (told part say)
 
 pub returns-clause-stock : goal.returns-clause-stock

@@ -1,4 +1,4 @@
-use Rattle.std.proofs.Common.{◌+◌, ◌<◌, ◌++◌, ◌∙◌, List, [], ap, inl, inr, length, subst, sym, take}
+use Rattle.std.proofs.Common.{◌≡◌, ◌+◌, ◌<◌, ◌++◌, ◌∙◌, List, [], ap, inl, inr, length, subst, sym, take}
 use Rattle.std.proofs.lemmas.List.Elements.{All-get_or}
 use Rattle.std.proofs.lemmas.Result.{err_from_is_err_and}
 use Rattle.mill_base.proofs.Ranges.{in_range_of_unit}
@@ -7,25 +7,33 @@ use Rattle.mill_base.specs.declared.motion.Move.{Move}
 use Rattle.mill_base.specs.declared.points.Tri.{Tri}
 use Rattle.mill_base.specs.declared.limits.TheConstants.{MAX_MOVES}
 use Rattle.mill_dexel.specs.Stocks.{IsStock}
-use Rattle.mill_job.specs.Columns.{home}
-use Rattle.mill_links.specs.Links.{way_home}
-use Rattle.mill_links.specs.Tours.{IsTour}
-use Rattle.mill_links.proofs.Steps.{tour_nil}
+use Rattle.mill_links.specs.Links.{FollowStock, head, way_home}
+use Rattle.mill_links.specs.Tours.{GoesThrough}
+use Rattle.mill_links.proofs.Steps.{through_none}
 use Rattle.mill_plan.specs.inner.Feeds.{SayClear}
 use Rattle.mill_plan.specs.inner.Steps.{IsRound}
 use Rattle.mill_plan.proofs.Feeding.{says_at}
-use Rattle.mill_plan.proofs.Homing.{past_old, way_home_ranged}
+use Rattle.mill_plan.proofs.Homing.{head_ranged, home_in_range, past_old, way_home_ranged}
 use Rattle.mill_plan.proofs.Touring.{long_round, over_at, place_after, round_made, stock_more, tour_more}
 use Rattle.mill_plan.proofs.moves.round_of.Goals as goal
 
+pub cut-requires-clause-moves_ok : goal.cut-requires-clause-moves_ok
+cut-requires-clause-moves_ok c =
+    let job = c.args.job.now.fields in
+    subst MovesInRange (sym (c.deref.ensures.value ∙ c.in_ok-head.ensures.ok ∙ ap (λ (ms : List Move). ms ++ head job) c.new-moves.ensures.items))
+    (head_ranged job (home_in_range job c.args.job.now.is_job))
+
 pub loop-number-init : goal.loop-number-init
-loop-number-init c = record {
-  place = c.home-place.ensures.value;
-  tour = λ part say. rw c.new-moves.ensures.items (tour_nil c.args.job.now.fields part [] (home c.args.job.now.fields));
-  stock = λ part say. rw c.new-moves.ensures.items c.requires.rows_ok.stock;
-  rows_ok = c.requires.rows_ok.rows_ok;
-  in_range = c.home-place.ensures.in_range;
-}
+loop-number-init c =
+    let job = c.args.job.now.fields in
+    let begun : c.head.new.out.items ≡ head job = c.in_ok-head.ensures.ok ∙ ap (λ (ms : List Move). ms ++ head job) c.new-moves.ensures.items in
+    record {
+      place = c.home-place.ensures.value;
+      tour = λ part say. subst (λ (ms : List Move). GoesThrough job part [] ms) (sym begun) (through_none job part);
+      stock = λ part say. subst (λ (ms : List Move). FollowStock job ms c.cut.new.rows) c.deref.ensures.value (c.cut.ensures.stock [] c.requires.rows_ok.stock);
+      rows_ok = c.cut.ensures.rows_ok;
+      in_range = c.home-place.ensures.in_range;
+    }
 
 pub link_known-requires-clause-from_ok : goal.link_known-requires-clause-from_ok
 link_known-requires-clause-from_ok c = in_range_of_unit c.args.job.now.fields.unit c.loop-number.place c.loop-number.invariant.in_range
@@ -55,12 +63,12 @@ pub returns-in_err-check_moves-clause-fault : goal.returns-in_err-check_moves-cl
 returns-in_err-check_moves-clause-fault c = λ part say.
     let p = err_from_is_err_and c.from_residual-in_err-check_moves.result c.from_residual-in_err-check_moves.ensures.1 in
     let so_far = c.loop-number.invariant in
-    let tour : IsTour c.args.job.now.fields part [] (home c.args.job.now.fields) (take (c.loop-number.number + 1) c.args.visits.now) c.link_known.new.out.items =
+    let tour : GoesThrough c.args.job.now.fields part (take (c.loop-number.number + 1) c.args.visits.now) c.link_known.new.out.items =
     tour_more c.args.job.now.fields part c.args.visits.now c.loop-number.number _ c.loop-number.place c.loop-number.moves.items c.link_known.new.out.items
     c.loop-number-test.true so_far.place (so_far.tour part say)
     (c.in_ok-link_known.ensures.ok part c.loop-number.moves.items
     (says_at c.args.job.now.fields part c.args.visits.now c.args.clear.now c.loop-number.number _ _ c.loop-number.place say c.loop-number-test.true so_far.place) (so_far.stock part say)) in
-    let many : MAX_MOVES < length c.link_known.new.out.items = rw c.deref.ensures.value at c.in_err-check_moves.ensures.many in
+    let many : MAX_MOVES < length c.link_known.new.out.items = rw c.deref-in-loop-number.ensures.value at c.in_err-check_moves.ensures.many in
     rw (p.1, p.2, c.in_err-check_moves.ensures.fault)
     (inl (over_at c.args.job.now.fields part c.args.visits.now c.loop-number.number c.link_known.new.out.items tour many))
 
@@ -80,8 +88,8 @@ returns-clause-round c = λ part say.
     round_made c.args.job.now.fields part c.args.visits.now c.loop-number.number c.loop-number.place c.loop-number.moves.items c.home.new.out.items c.loop-number-test.false
     so_far.place (so_far.tour part say) c.in_ok-home.ensures.ok
 
-pub cut-requires-clause-moves_ok : goal.cut-requires-clause-moves_ok
-cut-requires-clause-moves_ok c =
+pub cut-requires-2-clause-moves_ok : goal.cut-requires-2-clause-moves_ok
+cut-requires-2-clause-moves_ok c =
     let way = way_home c.args.job.now.fields c.loop-number.place in
     subst MovesInRange
     (sym (past_old c.loop-number.moves.items way c.deref-3.result.now c.len-first.result (c.len-first.ensures ∙ c.loop-number.moves.ok.0) (c.deref-3.ensures.value ∙ c.in_ok-home.ensures.ok)))
@@ -91,8 +99,8 @@ cut-requires-clause-moves_ok c =
 pub returns-clause-stock : goal.returns-clause-stock
 returns-clause-stock c = λ part say tested.
     let way = way_home c.args.job.now.fields c.loop-number.place in
-    subst (λ (ms : List Move). IsStock c.args.job.now.fields ms c.cut.new.rows)
+    subst (λ (ms : List Move). IsStock c.args.job.now.fields ms c.cut-2.new.rows)
     (ap (λ ms. c.loop-number.moves.items ++ ms)
     (past_old c.loop-number.moves.items way c.deref-3.result.now c.len-first.result (c.len-first.ensures ∙ c.loop-number.moves.ok.0) (c.deref-3.ensures.value ∙ c.in_ok-home.ensures.ok))
     ∙ sym c.in_ok-home.ensures.ok)
-    (c.cut.ensures c.loop-number.moves.items (c.loop-number.invariant.stock part say) tested)
+    (c.cut-2.ensures.stock c.loop-number.moves.items (c.loop-number.invariant.stock part say) tested)

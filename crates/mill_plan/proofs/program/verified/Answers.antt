@@ -4,6 +4,8 @@ use Rattle.mill_verify.specs.Verdicts.{IsVerdict}
 use Rattle.mill_verify.specs.declared.verdict.Reason.{Reason}
 use Rattle.mill_verify.specs.declared.verdict.Verdict.{Verdict}
 use Rattle.mill_verify.specs.declared.verdict.Verdict.TheVariants.{Reject}
+use Rattle.mill_obstacles.specs.Faces.{obstacles_of}
+use Rattle.mill_plan.proofs.Heading.{plan_begins}
 use Rattle.mill_plan.proofs.Telling.{done_told, held_told, no_other, uncut_told}
 use Rattle.mill_plan.proofs.program.verified.Goals as goal
 
@@ -32,3 +34,6 @@ pub returns-in-HolderStock-clause-fault : goal.returns-in-HolderStock-clause-fau
 returns-in-HolderStock-clause-fault g c =
     held_told c.args.job.now.fields c.args.part.now c.args.moves.now c.requires.plan_ok c.in-HolderStock.at c.in-HolderStock.row c.in-HolderStock.col c.in-HolderStock.leaf
     (subst (λ (v : Verdict). IsVerdict c.args.job.now.fields c.args.part.now c.args.moves.now v) (c.in-Reject.is ∙ ap (λ (r : Reason). Reject r) c.in-HolderStock.is) c.in_ok-count.ensures.verdict)
+
+pub text_of-requires : goal.text_of-requires
+text_of-requires g c = record { begins = plan_begins c.args.job.now.fields (obstacles_of c.args.job.now.fields c.args.part.now) c.args.moves.now c.requires.plan_ok.is }

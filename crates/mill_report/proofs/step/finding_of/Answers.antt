@@ -7,8 +7,8 @@ use Rattle.mill_report.proofs.step.finding_of.Goals as goal
 
 pub returns-in-Some : goal.returns-in-Some
 returns-in-Some c = λ stock told.
-    subst (λ (r : Reason). FailsPart c.args.job.now.fields c.args.part.now c.args.step.now c.args.number r) (sym c.part_reason.ensures)
-    (part_fails c.failing_is_blocked.ensures c.args.job.now.fields c.args.step.now c.args.job.now.is_job c.requires.step_ok c.args.part.now c.args.number c.in-Some.fail c.in-Some.ensures)
+    subst (λ (r : Reason). FailsPart c.args.job.now.fields c.args.part.now c.args.step.now c.args.number r) (sym c.clash_reason.ensures)
+    (part_fails c.failing_is_blocked.ensures c.args.job.now.fields c.args.step.now c.args.job.now.is_job c.requires.step_ok c.args.part.now c.args.number c.in-Some.clash c.in-Some.ensures)
     stock (c.is_over_floor.ensures.yes c.if-not-is_over_floor.false)
 
 pub returns : goal.returns

@@ -18,4 +18,4 @@ pub returns-clause-untaken : goal.returns-clause-untaken
 returns-clause-untaken g c = untaken_of _ _ c.work.ensures.outcome
 
 pub returns-clause-headline : goal.returns-clause-headline
-returns-clause-headline g c = headline_of c.one_verdict.ensures _ _ c.work.ensures.outcome
+returns-clause-headline g c = headline_of c.one_verdict.ensures c.start_is_safe.ensures _ _ c.work.ensures.outcome

@@ -20,13 +20,13 @@ returns-clause-replies g c =
     record { answers = answers_of _ _ has; completes = completes_of _ _ has; untaken = untaken_of _ _ has }
 
 pub returns-clause-headline : goal.returns-clause-headline
-returns-clause-headline g c = headline_of c.one_verdict.ensures _ _ c.work.ensures.outcome
+returns-clause-headline g c = headline_of c.one_verdict.ensures c.start_is_safe.ensures _ _ c.work.ensures.outcome
 
 pub returns-clause-plan_headline : goal.returns-clause-plan_headline
-returns-clause-plan_headline g c = plan_headline_of _ _ c.work.ensures.outcome
+returns-clause-plan_headline g c = plan_headline_of c.start_is_safe.ensures _ _ c.work.ensures.outcome
 
 pub returns-clause-stock_headline : goal.returns-clause-stock_headline
 returns-clause-stock_headline g c = stock_headline_of _ _ c.work.ensures.outcome
 
 pub returns-clause-rest_headline : goal.returns-clause-rest_headline
-returns-clause-rest_headline g c = rest_headline_of c.one_list_verdict.ensures _ _ c.work.ensures.outcome
+returns-clause-rest_headline g c = rest_headline_of c.one_list_verdict.ensures c.start_is_safe.ensures _ _ c.work.ensures.outcome

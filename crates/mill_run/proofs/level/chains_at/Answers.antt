@@ -8,7 +8,7 @@ use Rattle.mill_run.proofs.level.chains_at.Goals as goal
 pub returns-clause-chains : goal.returns-clause-chains
 returns-clause-chains c =
     let height_fits : FitsSigned w32 c.args.height = search rules in
-    simp (to_z-of_z, c.in_ok-part.ensures, c.finish_lattice-lattice.ensures, c.tool-tool.ensures) at c.waterline.ensures.chains
+    simp (to_z-of_z, c.in_ok-part.ensures, c.in_ok-all.ensures, c.finish_lattice-lattice.ensures, c.tool-tool.ensures) at c.waterline.ensures.chains
 
 pub returns-clause-nodes : goal.returns-clause-nodes
 returns-clause-nodes c = λ nodes is. subst (λ (lattice : Lattice). HasManyNodes lattice nodes) c.finish_lattice-lattice.ensures ((c.waterline.ensures.nodes nodes).0 is)

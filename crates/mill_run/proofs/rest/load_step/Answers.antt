@@ -2,6 +2,7 @@ use Rattle.std.proofs.Common.{ℕ, List, Err, refl, subst, sym}
 use Rattle.mill_base.proofs.Ranges.{moves_of_unit}
 use Rattle.mill_load.specs.declared.file.File.TheVariants.{StepProgram}
 use Rattle.mill_load.specs.Loads.{LoadsProgram}
+use Rattle.mill_run.proofs.Rests.{go_on}
 use Rattle.mill_run.proofs.rest.load_step.Goals as goal
 
 pub returns-in-Ok-clause-read : goal.returns-in-Ok-clause-read
@@ -10,7 +11,7 @@ returns-in-Ok-clause-read g c = λ contents held. record { cutter_is = refl; mov
 pub returns-in-Ok-clause-ready : goal.returns-in-Ok-clause-ready
 returns-in-Ok-clause-ready g c =
     let moves = c.in-Ok.ensures.ready in
-    record { fits = c.requires; moves_ok = moves_of_unit c.args.job.now.fields.unit c.in-Ok.moves.items moves.in_range; follow = moves.follow; few = moves.few }
+    record { fits = c.requires; moves_ok = moves_of_unit c.args.job.now.fields.unit c.in-Ok.moves.items moves.in_range; follow = go_on c.args.job.now.fields c.in-Ok.moves.items moves.follow; few = moves.few }
 
 pub returns-in-Err-clause-failed : goal.returns-in-Err-clause-failed
 returns-in-Err-clause-failed g c = c.in-Err.ensures.failed (λ file. c.args.step.now.program) (sym c.as_str-program.ensures)

@@ -3,7 +3,7 @@ use Rattle.std.specs.Prelude.{FitsSigned, IfOk}
 use Rattle.std.proofs.lemmas.Int.{to_z-of_z}
 use Rattle.mill_plan.specs.Plans.{done}
 use Rattle.mill_run.specs.Sample.{sample_line}
-use Rattle.mill_run.proofs.Samples.{verdict_tries}
+use Rattle.mill_run.proofs.Samples.{sample_still, verdict_tries}
 use Rattle.mill_run.proofs.sample.tell_planned.Goals as goal
 
 pub returns-in-Ok-Accept : goal.returns-in-Ok-Accept
@@ -14,3 +14,6 @@ returns-in-Ok-Accept g c =
     simp to_z-of_z at c.line_of_sample-line.ensures in
     verdict_tries c.args.size _ _ _ c.args.job.now.fields c.args.part.now c.args.planned.now told.moves told.columns told.most_left c.line_of_sample-line.result c.requires.sample_ok c.requires.planned_ok
     (sym told.field-0-is ∙ told.ensures) line c.tell_made.ensures
+
+pub verified-requires-clause-still : goal.verified-requires-clause-still
+verified-requires-clause-still g c κs within = sample_still c.args.size c.args.job.now.fields c.args.part.now c.requires.sample_ok

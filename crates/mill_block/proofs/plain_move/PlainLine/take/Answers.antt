@@ -48,7 +48,7 @@ returns-in-71-clause-more c taken =
 
 pub returns-in-70-clause-goes : goal.returns-in-70-clause-goes
 returns-in-70-clause-goes c taken positioned s says =
-    goes-feed c.args.unit c.args.line positioned c.args.word s c.args.self.now c.take_feed.new.feed c.in-70.is (c.take_feed.ensures.new taken) (c.take_feed.ensures.had taken) says
+    goes-feed c.args.unit c.args.line positioned c.args.word s c.args.self.now c.take_feed.new.feed c.in-70.is (c.take_feed.ensures.new taken) (c.take_feed.ensures.had taken) (c.take_feed.ensures.over taken) says
 
 pub returns-in-70-clause-capital : goal.returns-in-70-clause-capital
 returns-in-70-clause-capital c taken = capital-of c.args.word.letter (inr (inr (inr c.in-70.is)))

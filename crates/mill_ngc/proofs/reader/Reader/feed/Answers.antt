@@ -11,6 +11,6 @@ pub returns-in-Some-clause-front : goal.returns-in-Some-clause-front
 returns-in-Some-clause-front c = front-fed (c.args.self.now, c.args.out.now.items) c.args.piece.now _ refl
 
 pub returns-in-Err-clause-moves : goal.returns-in-Err-clause-moves
-returns-in-Err-clause-moves c start unit so_far =
-    c.read_piece.ensures.sound start unit
-    (shown_so_far c.self.inside.fault c.self.inside.text c.args.self.now start unit c.args.out.now.items (search rules) (search rules) so_far)
+returns-in-Err-clause-moves c start unit asked so_far =
+    c.read_piece.ensures.sound start unit asked
+    (shown_so_far c.self.inside.fault c.self.inside.text c.args.self.now start unit asked c.args.out.now.items (search rules) (search rules) so_far)

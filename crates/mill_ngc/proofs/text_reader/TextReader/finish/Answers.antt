@@ -1,4 +1,4 @@
-use Rattle.mill_block.specs.Lines.{line_begun, made_list}
+use Rattle.mill_block.specs.Lines.{line_begun}
 use Rattle.std.proofs.Common.{◌++◌}
 use Rattle.mill_ngc.proofs.ProgramLemmas.{so_far-begun, so_far-line, are_sound}
 use Rattle.mill_ngc.proofs.text_reader.TextReader.finish.Goals as goal
@@ -9,8 +9,8 @@ returns-then-has_ended-2-clause-sound c =
     let q = c.read_any_line.new.self in
     let moves = c.args.out.now.items in
     let adds = c.in_ok-read_any_line.ensures.ok in
-    rw adds.added (λ start unit s. are_sound start unit q (moves ++ made_list adds.made)
-    (so_far-line start unit (line_begun p) q moves adds.made (so_far-begun start unit p moves s) adds.keeps))
+    rw adds.added (λ start unit rules s. are_sound start unit rules q (moves ++ adds.made)
+    (so_far-line start unit rules (line_begun p) q moves adds.made (so_far-begun start unit rules p moves s) adds.keeps))
 
 pub returns-clause-sound : goal.returns-clause-sound
 returns-clause-sound c =
@@ -18,5 +18,5 @@ returns-clause-sound c =
     let q = c.read_any_line.new.self in
     let moves = c.args.out.now.items in
     let adds = c.in_ok-read_any_line.ensures.ok in
-    rw adds.added (λ start unit s. are_sound start unit q (moves ++ made_list adds.made)
-    (so_far-line start unit (line_begun p) q moves adds.made (so_far-begun start unit p moves s) adds.keeps))
+    rw adds.added (λ start unit rules s. are_sound start unit rules q (moves ++ adds.made)
+    (so_far-line start unit rules (line_begun p) q moves adds.made (so_far-begun start unit rules p moves s) adds.keeps))

@@ -1,5 +1,5 @@
 use Rattle.std.proofs.Common.{◌<◌, ◌++◌, ◌∙◌, length, sym, rules, arith}
-use Rattle.mill_block.specs.Lines.{line_begun, made_list}
+use Rattle.mill_block.specs.Lines.{line_begun}
 use Rattle.mill_ngc.specs.Pieces.{fed}
 use Rattle.mill_ngc.specs.Texts.{reading_of}
 use Rattle.mill_ngc.proofs.ProgramLemmas.{so_far-begun, so_far-line, are_sound}
@@ -34,9 +34,9 @@ loop-rest-preserved c =
           (fed (reading_of c.args.self.now, c.args.out.now.items) c.args.piece.now)
           (search rules) lines adds.told c.in_ok-end_line-in-Some.ensures.begins c.loop-rest.invariant.so_far;
       lines = omega (arith, shorter, adds.keeps.same_line, c.loop-rest.invariant.lines);
-      here = keeps_range (line_begun p) q adds.made c.loop-rest.invariant.here adds.keeps;
-      grows = front-more c.args.out.now.items moves (moves ++ made_list adds.made) c.loop-rest.invariant.grows (front-add moves (made_list adds.made));
-      moves = λ start unit s. so_far-line start unit (line_begun p) q moves adds.made (so_far-begun start unit p moves (c.loop-rest.invariant.moves start unit s)) adds.keeps;
+      here = keeps_range (line_begun p) q adds.made adds.keeps;
+      grows = front-more c.args.out.now.items moves (moves ++ adds.made) c.loop-rest.invariant.grows (front-add moves adds.made);
+      moves = λ start unit rules s. so_far-line start unit rules (line_begun p) q moves adds.made (so_far-begun start unit rules p moves (c.loop-rest.invariant.moves start unit rules s)) adds.keeps;
     })
 
 pub returns-in-None-clause-ok : goal.returns-in-None-clause-ok
@@ -70,12 +70,12 @@ returns-clause-front c =
 pub returns-in_err-end_line-in-Some-clause-sound : goal.returns-in_err-end_line-in-Some-clause-sound
 returns-in_err-end_line-in-Some-clause-sound c =
     rw c.in_err-end_line-in-Some.ensures.kept
-    (λ start unit s. are_sound start unit c.loop-rest.self.lines c.loop-rest.out.items (c.loop-rest.invariant.moves start unit s))
+    (λ start unit rules s. are_sound start unit rules c.loop-rest.self.lines c.loop-rest.out.items (c.loop-rest.invariant.moves start unit rules s))
 
 pub returns-in-None-clause-sound : goal.returns-in-None-clause-sound
-returns-in-None-clause-sound c start unit s =
-    are_sound start unit c.loop-rest.self.lines c.loop-rest.out.items (c.loop-rest.invariant.moves start unit s)
+returns-in-None-clause-sound c start unit rules s =
+    are_sound start unit rules c.loop-rest.self.lines c.loop-rest.out.items (c.loop-rest.invariant.moves start unit rules s)
 
 pub returns-clause-sound : goal.returns-clause-sound
-returns-clause-sound c start unit s =
-    are_sound start unit c.loop-rest.self.lines c.loop-rest.out.items (c.loop-rest.invariant.moves start unit s)
+returns-clause-sound c start unit rules s =
+    are_sound start unit rules c.loop-rest.self.lines c.loop-rest.out.items (c.loop-rest.invariant.moves start unit rules s)

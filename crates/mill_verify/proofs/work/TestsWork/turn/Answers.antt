@@ -3,8 +3,7 @@ use Rattle.mill_base.specs.declared.motion.Move.{Move}
 use Rattle.mill_board.specs.Works.{IsDue}
 use Rattle.mill_dexel.specs.Turns.{ClearsRow, IsLeftBy, IsRowStopped, move_at, turned}
 use Rattle.mill_verify.specs.Blocks.{IsBlockStopped}
-use Rattle.mill_job.specs.Jobs.{part_tool_of}
-use Rattle.mill_gouge.specs.Gouges.{ToolPassesPart}
+use Rattle.mill_verify.specs.Clashes.{IsClear}
 use Rattle.mill_verify.specs.declared.piece.Piece.{Piece}
 use Rattle.mill_verify.specs.declared.piece.Piece.TheVariants.{Block, Stock}
 use Rattle.mill_verify.specs.inner.Pieces.{IsPieceAt, IsPieceFailed, PassesTest, TestsShown, tests}
@@ -32,7 +31,7 @@ pub returns-in-Block-clause-passed : goal.returns-in-Block-clause-passed
 returns-in-Block-clause-passed c e =
     let w : TestsShown = record { job = c.self.inside.job.now.fields; part = c.self.inside.part.now; start = rows_at c.self.inside.start.now; moves = c.self.inside.bands.moves; turns = c.self.inside.bands.count } in
     subst (λ (x : TestsShown). (n : ℕ) → IsDue tests x n c.args.turn c.args.piece.now → PassesTest x n c.args.turn × IsPieceAt x n (c.args.turn + 1) (Block c.in-Block.number c.turn.new.self)) c.self.view_is
-    (λ n d. block_passes w n c.args.turn c.in-Block.number c.in-Block.block c.turn.new.self (subst (λ (p : Piece). IsDue tests w n c.args.turn p) c.in-Block.is d) (subst (λ (ms : List Move). ToolPassesPart (part_tool_of w.job) (move_at ms c.args.turn) w.part) c.moves-moves.ensures (c.turn.ensures.clears e)) (c.turn.ensures.passed e))
+    (λ n d. block_passes w n c.args.turn c.in-Block.number c.in-Block.block c.turn.new.self (subst (λ (p : Piece). IsDue tests w n c.args.turn p) c.in-Block.is d) (subst (λ (ms : List Move). IsClear w.job w.part (move_at ms c.args.turn)) c.moves-moves.ensures (c.turn.ensures.clears e)) (c.turn.ensures.passed e))
 
 pub returns-in-Block-clause-failed : goal.returns-in-Block-clause-failed
 returns-in-Block-clause-failed c e =

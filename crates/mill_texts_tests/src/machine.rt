@@ -1,0 +1,110 @@
+// Jobs that say what stands on the machine and what its habits are, and the faults for which others
+// are refused.
+//
+// The tables are as in job.rt: a row is `OLD => NEW => SAYS`.
+use crate::job::{EXAMPLE, answer, each_is_read, each_is_refused};
+use crate::tables::same;
+use mill_job::read_job;
+use std::alloc::Global;
+use std::test::Fail;
+
+/// EXAMPLE, with a line in the place of which more keys stand.
+fn open(alloc: Global) -> Result<String, Fail> {
+    Ok(format!(in alloc; "{EXAMPLE}#\n")?)
+}
+
+/// The offset of a flat cutter is its slack, that of the cone twice its slack.
+const READ: &str = r#"# => keep_out = [] => and fixtures []
+# => keep_out = [[-5, 0, 5, 1, 400]] => area: Box2 { x0: -5, y0: 0, x1: 5, y1: 1 }, height: 400 }]
+# => keep_out = [[7, 7, 7, 7, 7], [131071, -131071, 131071, 0, -131071]] => height: -131071 }]
+# => unit = "thousandth"\nkeep_out = [[-524287, 0, 524287, 0, -524287]] => height: -524287 }]
+# => slack = 20\nkeep_out = [[0, 0, 0, 0, 380]] => height: 380 }]
+"flat" => "cone"\nrise = 4\nrun = 3\nslack = 2\nkeep_out = [[0, 0, 0, 0, 396]] => height: 396 }]
+# => # => start: Home, spindle: false } with
+# => spindle = true => start: Home, spindle: true } with
+# => start = "anywhere" => start: Anywhere, spindle: false }
+# => start = "change"\nspindle = false => start: Change, spindle: false }
+# => start = "home" => start: Home, spindle: false }"#;
+
+#[test]
+fn reads_what_the_machine_is(rt: HostRuntime) -> Result<(), Fail> {
+    each_is_read(&rt, rt.alloc(), &open(rt.alloc())?, READ)
+}
+
+const REFUSED: &str = r#"# => keep_out = 5 => wrong kind of keep_out
+# => keep_out = {} => wrong kind of keep_out
+# => keep_out = [5] => wrong kind of keep_out
+# => keep_out = [0, 0, 1, 1, 0] => wrong kind of keep_out
+# => keep_out = [[0, 0, 1, 1, 1.5]] => wrong kind of keep_out
+# => keep_out = [[[0], 0, 0, 0, 0]] => wrong kind of keep_out
+# => keep_out = [[0, 0, 1], 5] => wrong kind of keep_out
+# => keep_out = [[9, 0, 0, 0, 0], [0, 0, 0, 0, "0"]] => wrong kind of keep_out
+# => keep_out = [[]] => keep_out out of range
+# => keep_out = [[0, 0, 1, 1]] => keep_out out of range
+# => keep_out = [[0, 0, 1, 1, 1, 1]] => keep_out out of range
+# => keep_out = [[0, 0, 1, 1, 0], [1, 0, 0, 1, 0]] => keep_out out of range
+# => keep_out = [[0, 1, 1, 0, 0], [0, 0, 1, 1, 0]] => keep_out out of range
+# => keep_out = [[-131072, 0, 0, 0, 0]] => keep_out out of range
+# => keep_out = [[0, 0, 0, 0, 131072]] => keep_out out of range
+# => keep_out = [[0, 0, 0, 0, -131072]] => keep_out out of range
+# => unit = "thousandth"\nkeep_out = [[0, 0, 0, 524288, 0]] => keep_out out of range
+# => keep_out = [[0, 0, 0, 0, 0], [0, 0, 0, 0, 401]] => keep_out doesn't fit clear
+# => slack = 20\nkeep_out = [[0, 0, 0, 0, 381]] => keep_out doesn't fit clear
+"flat" => "cone"\nrise=4\nrun=3\nslack=2\nkeep_out=[[0,0,0,0,397]] => keep_out doesn't fit clear
+"flat" => "cone"\nrise=4\nrun=3\nslack=61\nkeep_out=[[0,0,0,0,401]] => slack doesn't fit clear
+# => graze = -1\nkeep_out = 5 => graze out of range
+# => keep_out = [[0, 0, 0, 0, 401]]\nstart = "there" => start out of range
+# => keep_out = 5\nstart = 5 => wrong kind of keep_out
+# => start = "Anywhere" => start out of range
+# => start = ["home"]\nspindle = "x" => wrong kind of start
+# => start = "home "\nspindle = 1 => start out of range
+# => start = 0 => wrong kind of start
+# => spindle = 1 => wrong kind of spindle
+band = 0 => band = 151\nspindle = "true" => wrong kind of spindle
+# => keep_outs = [] => unknown keep_outs"#;
+
+#[test]
+fn refuses_another_machine(rt: HostRuntime) -> Result<(), Fail> {
+    each_is_refused(&rt, rt.alloc(), &open(rt.alloc())?, REFUSED)
+}
+
+/// EXAMPLE with so many fixtures, and this one behind them.
+fn boxes(alloc: Global, count: usize, last: &str) -> Result<String, Fail> {
+    let mut text = format!(in alloc; "{EXAMPLE}keep_out = [")?;
+    for height in 0..count {
+        text.push_str(&format!(in alloc; "[0, 0, 9, 9, {height}], ")?)?;
+    }
+    text.push_str(last)?;
+    text.push_str("]\n")?;
+    Ok(text)
+}
+
+#[test]
+fn takes_64_fixtures(rt: HostRuntime) -> Result<(), Fail> {
+    let most = boxes(rt.alloc(), 63, "[1, 2, 3, 4, 5]")?;
+    let job = read_job(rt.alloc(), most.as_bytes())?;
+    let boxes = job.fixtures();
+    assert_eq!(rt; boxes.len(), 64);
+    assert_eq!(rt; boxes.first().map(|fixture| fixture.height), Some(0));
+    assert_eq!(rt; boxes.last().map(|fixture| fixture.area.y1), Some(4));
+    Ok(())
+}
+
+#[test]
+fn refuses_65_fixtures(rt: HostRuntime) -> Result<(), Fail> {
+    let more = boxes(rt.alloc(), 64, "[1, 2, 3, 4, 5]")?;
+    same(
+        &rt,
+        &answer(rt.alloc(), &more)?,
+        "keep_out out of range",
+        "",
+    );
+    let other = boxes(rt.alloc(), 64, "[1, 2, 3, 4, 5.0]")?;
+    same(
+        &rt,
+        &answer(rt.alloc(), &other)?,
+        "wrong kind of keep_out",
+        "",
+    );
+    Ok(())
+}
