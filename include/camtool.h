@@ -307,8 +307,8 @@ typedef struct camtool_verdict {
  * fails, or that the program is accepted; what it says is exact. With status CAMTOOL_OK told has the
  * verdict, which may be a rejection. The first text that is refused gives the status: the job's,
  * the part's, which is read in the job's unit and by its snap, and then the program's, which is read
- * from the job's home, in its unit, and by its start and spindle. told is written with every
- * status. */
+ * from the job's home, in its unit, and by its rapids, start and spindle. told is written with
+ * every status. */
 int32_t camtool_verify(const uint8_t *job, size_t job_count, const uint8_t *part,
                        size_t part_count, const uint8_t *program, size_t program_count,
                        camtool_verdict *told);

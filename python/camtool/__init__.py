@@ -544,7 +544,7 @@ def verify(job, part, program):
 
     job      bytes, or another array of bytes: a TOML document
     part     the same: an ASCII STL, which is read in the job's unit and by its snap
-    program  the same: a G-code, read from the job's home and by its start and spindle
+    program  the same: a G-code, read from the job's home and by its rapids, start and spindle
 
     It returns a Verdict. Where a text is refused, an exception says why: that of the first one, in this order.
     """

@@ -54,6 +54,7 @@ class Job:
         self.slack, self.overcut = keys.get("slack", 0), keys.get("overcut", 0)
         self.graze = keys.get("graze", 2 * self.slack + 5 if self.slack else 0)
         self.keep_out = keys.get("keep_out", [])
+        self.rapids = keys.get("rapids", "straight")
         self.start, self.spindle = keys.get("start", "home"), keys.get("spindle", False)
         self.sides = self.area[2] - self.area[0], self.area[3] - self.area[1]
 
@@ -99,6 +100,8 @@ def rows_of(job):
         yield "machine", f"the tip is at most {job.mm(job.slack)} off; the part may be cut by {job.mm(job.overcut)}, and stock shaved by {job.mm(job.graze)}"
     if job.keep_out:
         yield "fixtures", f"{len(job.keep_out)} to keep out of, the highest up to Z{job.grid.millimetres(max(it[4] for it in job.keep_out))}"
+    if job.rapids == "axes":
+        yield "rapids", "each axis at its own speed: along two axes or more any way in the box of the ends"
     if job.spindle:
         yield "program", "has to start the spindle, and to say how fast it feeds, before it feeds"
     holder = f"{job.mm(2 * job.holder_radius)} across, {job.mm(job.stickout)} over the tip" if job.stickout else "none, so nothing over the cutter is looked at"

@@ -53,6 +53,7 @@ KEYS = (
     Key("band", "high", "find_band"),
     Key("overcut", "low", "find_overcut"),
     Key("keep_out", "boxes", "find_keep_out"),
+    Key("rapids", "text", "find_rapids"),
     Key("start", "text", "find_start"),
     Key("spindle", "truth", "find_spindle"),
     Key("layer", "near", "find_layer"),
@@ -371,6 +372,10 @@ class Setup:
     def find_keep_out(self):
         """What stands on the machine, where that is said."""
         return Value(self.asked.keep_out, "what cutter and holder keep out of: clamps, vice, pins") if self.asked.keep_out else None
+
+    def find_rapids(self):
+        """How the machine goes on a rapid, where that is said."""
+        return Value(self.asked.rapids, "how rapids go: straight, or each axis at its own speed") if self.asked.rapids else None
 
     def find_start(self):
         """From where a program starts, where that is said."""

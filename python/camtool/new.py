@@ -1,4 +1,4 @@
-"""camtool-new PART [PROGRAM..] [--tools=TABLE] [--tool=N ..] [--stock=X,Y,Z|MARGIN] [--allowance=MM] [--band=MM] [--overcut=MM] [--keep-out=X,Y,X,Y,Z ..] [--start=anywhere] [--spindle] [--layer=MM] [-o FOLDER] [--force]
+"""camtool-new PART [PROGRAM..] [--tools=TABLE] [--tool=N ..] [--stock=X,Y,Z|MARGIN] [--allowance=MM] [--band=MM] [--overcut=MM] [--keep-out=X,Y,X,Y,Z ..] [--rapids=axes] [--start=anywhere] [--spindle] [--layer=MM] [-o FOLDER] [--force]
 
 Makes the job for a part and the programs that cut it: job.toml, and for several programs list.toml, which names them in
 the order of the call, each with its cutter. With no program it makes a job for `camtool plan`. All that it takes from
@@ -19,6 +19,7 @@ guess is marked `guessed:` there, and told: look at these numbers, or call it ag
 --band=MM          how far from a wall nothing that stands is told
 --overcut=MM       how far a program may come into the part; 0.05 if left out, in thousandths 0.015
 --keep-out=X,Y,X,Y,Z  a box that cutter and holder keep out of: its least and greatest X and Y, and its height; once for each
+--rapids=axes      rapids may be no straight lines: each axis may run at its own speed
 --start=anywhere   programs start from anywhere: a line with Z alone, at or over `clear`, and then one with X and Y
 --spindle          programs must start the spindle, and say how fast they feed, before they feed
 --layer=MM         for a plan: how much roughing takes off at a time
@@ -112,7 +113,7 @@ class Asked:
         lengths = (length_of(it, getattr(words, it)) for it in ("allowance", "band", "overcut", "layer"))
         self.allowance, self.band, self.overcut, self.layer = lengths
         self.stock = [length_of("stock", it, True) for it in words.stock.split(",")] if words.stock else []
-        self.start, self.spindle = words.start, words.spindle
+        self.rapids, self.start, self.spindle = words.rapids, words.start, words.spindle
         self.keep_out = [[length_of("keep-out", it, True) for it in box.split(",")] for box in words.keep_out or []]
         if any(len(it) != 5 or it[0] > it[2] or it[1] > it[3] for it in self.keep_out):
             stop("--keep-out takes X,Y,X,Y,Z in millimetres: the least X and Y, the greatest, and the height")
@@ -230,6 +231,7 @@ def main(words=None):
         reader.add_argument(f"--{name}")
     reader.add_argument("--tool", action="append")
     reader.add_argument("--keep-out", action="append")
+    reader.add_argument("--rapids", choices=("straight", "axes"))
     reader.add_argument("--start", choices=("home", "anywhere", "change"))
     reader.add_argument("--spindle", action="store_true")
     reader.add_argument("-o", default=".")

@@ -203,6 +203,7 @@ def numbers_of(seen):
     rows.append(("start", start_told(job, point)))
     boxes = job.get("keep_out", [])
     rows += [("keep_out", f"{command.counted(len(boxes), 'box', 'boxes')}, the highest up to Z{mm(max(it[4] for it in boxes))}")] if boxes else []
+    rows += [("rapids", "each axis at its own speed")] if job.get("rapids") == "axes" else []
     rows.append(("pitch", f"{mm(job['pitch'])} mm"))
     rows.append(("allowance, band", f"{mm(job['allowance'])} mm, {mm(job['band'])} mm"))
     rows.append(("max_cut", f"{mm(job['max_cut'])} mm" if job.get("max_cut") else "no limit on the depth of a cut"))

@@ -34,6 +34,8 @@ ADVICE = {
     "deep": "Raised by that much, at both ends, {who} the part. Are the part's zero and the program's the same?",
     "near": "Keep the path three or four units off the part, or write an `overcut` of 5 units: the tool may then come so far into it.",
     "box": "Lift the move until {tool} is over Z{z}, or lead it round the box. Does the clamp stand where the box does? No `overcut` counts there.",
+    "bent": "The job has `rapids = \"axes\"`: each axis may run at its own speed, so the tip may be anywhere in the box of the "
+    "rapid's two ends. Write it in two lines: up first, with Z alone, and then across.",
     "Holder": "Let the tool stand out further, or take a narrower holder.",
     "Cutter": "Move the path {deep} mm away, or take a smaller tool. Is the job's `radius` that of the tool?",
     "small": "Smaller than the tool. A hole that a drill makes? Put the drilling into a list for `camtool rest`, or close the hole "
@@ -44,7 +46,7 @@ ADVICE = {
 # A piece of stock that is left too high: its least and greatest x and y, how wide it is along each, the most that it
 # stands over the part, its top there, and its columns, each x, y and top.
 Piece = collections.namedtuple("Piece", "low high sides over top columns")
-# A failing move that was measured: the item, the way ("side", "deep", "stock", ..), how far, and where.
+# A failing move that was measured: the item, the way ("side", "deep", "stock", "bent", ..), how far, and where.
 Measured = collections.namedtuple("Measured", "item way amount hit")
 # A cause: a key for its kind, its title, sentences, what to do, its moves (of them that which fails most stands first),
 # and the columns that it is about, each x, y and top.
@@ -80,6 +82,8 @@ def measured_of(seen, item):
     """Returns a failing move with how far it fails, and where."""
     step = seen.steps[item.step]
     move = step.moves[item.move]
+    if item.test != "floor" and texts.bends(seen.job, move):
+        return measured_bent(seen, item, move)
     if item.test in ("gouge", "holder"):
         return measured_part(seen, step.job, item, move)
     if item.test in BOXED:
@@ -88,6 +92,26 @@ def measured_of(seen, item):
         low = min(move.start, move.end, key=lambda it: it[2])
         return Measured(item, "floor", step.job["floor"] - low[2], Hit(low, 0, 0, low, 0))
     return measured_stock(seen, step.job, item, move)
+
+
+def measured_bent(seen, item, move):
+    """Returns a rapid that may go any way in the box of its ends, with the place of that box's underside that is nearest to what is
+    in the way. How far it comes into that isn't known."""
+    if item.box is not None:
+        x0, y0, x1, y1, z = seen.job["keep_out"][item.box]
+        corners = [(x0, y0, z), (x1, y1, z)]
+    elif item.column:
+        corners = [(*item.column[2:4], seen.job["top"] if item.column[4] is None else item.column[4])]
+    else:
+        corners = seen.triangles[item.triangle]
+    tip, place = [], []
+    for axis in (0, 1):
+        low, high = sorted((move.start[axis], move.end[axis]))
+        least, most = min(it[axis] for it in corners), max(it[axis] for it in corners)
+        tip.append(min(max(least, low), high))
+        place.append(min(max(tip[axis], least), most))
+    under = min(move.start[2], move.end[2])
+    return Measured(item, "bent", 0, Hit((*tip, under), 0, 0, (*place, max(it[2] for it in corners)), 0))
 
 
 def measured_stock(seen, job, item, move):
@@ -137,7 +161,7 @@ def measured_box(job, item, move):
 def may_touch(seen, measured):
     """Returns whether a failing move may only touch: it meets the part little, and isn't too deep over a level face."""
     is_little = measured.item.test in ("gouge", "holder") and measured.amount <= TOUCH[seen.grid.places] + seen.job.get("overcut", 0)
-    return is_little and not (measured.way == "deep" and is_level(measured.hit))
+    return is_little and measured.way != "bent" and not (measured.way == "deep" and is_level(measured.hit))
 
 
 def with_touch(seen, measured):
@@ -224,6 +248,8 @@ def words_of(seen, group, worst):
     job, test = seen.steps[worst.item.step].job, worst.item.test
     if worst.way == "touch":
         return words_of_touch(job, worst, mm)
+    if worst.way == "bent":
+        return words_of_bent(worst)
     if test in ("gouge", "holder"):
         return words_of_part(seen, group, worst, mm)
     if test in BOXED:
@@ -247,6 +273,14 @@ def words_of_touch(job, worst, mm):
         return f"Only a touch of the holder: passes with one {mm(worst.amount)} less in radius", ADVICE["brush"].format(off=off)
     passes = job.get("overcut", 0) + worst.amount
     return f"Only a touch: passes with an overcut of {mm(passes)}", ADVICE["touch"].format(passes=passes, deep=mm(passes), off=off)
+
+
+def words_of_bent(worst):
+    """Returns the title and the advice of rapids that may go any way in the box of their ends."""
+    test, box = worst.item.test, worst.item.box
+    tool = "Holder" if test.startswith("holder") else "Cutter"
+    what = f"box {box} of `keep_out`" if box is not None else "stock" if worst.item.column else "the part"
+    return f"{tool} may come into {what} on a rapid, whose axes run apart", ADVICE["bent"]
 
 
 def words_of_part(seen, group, worst, mm):

@@ -145,6 +145,10 @@ def tell_piece(files, reason, marks):
     """Returns the line on the piece of the move that fails."""
     piece = ends_of(files.move(reason.move), reason.leaf)
     marks.pieces.append(piece)
+    if texts.bends(files.job, files.move(reason.move)):
+        return [
+            "with `rapids = \"axes\"` it may go any way in the box of its two ends, and some way there fails: "
+            "write it in two lines, up first with Z alone, and then across"]
     return [f"the piece from {' to '.join(map(files.grid.point, piece))} of it fails"]
 
 
@@ -255,11 +259,13 @@ def tell_accepted(files, verdict):
 
 
 def tell_setup(job):
-    """Returns the lines on what an acceptance says of what stands on the machine, of the start and of the spindle."""
+    """Returns the lines on what an acceptance says of what stands on the machine, of rapids, of the start and of the spindle."""
     said = []
     boxes, holder = job.get("keep_out", []), " nor the holder" if "holder_radius" in job else ""
     if boxes:
         said.append(f"the cutter{holder} comes into none of the {counted(len(boxes), 'box', 'boxes')} of `keep_out`; what else stands on the table isn't looked at")
+    if job.get("rapids") == "axes":
+        said.append("each axis may run at its own speed on a rapid: one along two axes or more may go any way in the box of its ends")
     if job.get("start", "home") != "home":
         said.append("it may start from anywhere: its first line goes up or down, and its second one across, and neither is looked at")
     if job.get("spindle"):

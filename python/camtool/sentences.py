@@ -43,6 +43,7 @@ KEYS = {
     "overcut": ("how deep a point of the part may lie in the cutter and be no gouge", SMALL("500")),
     "graze": ("how deep stock may lie in the cutter of a rapid and not count", SMALL("500")),
     "keep_out": ("what stands on the machine, as clamps and a vice", "[[x0, y0, x1, y1, z], ..], at most 64 with x0 <= x1 and y0 <= y1, each of the five " + HEIGHT),
+    "rapids": ("whether a rapid goes straight, or each axis at its own speed", 'a text, "straight" or "axes"'),
     "start": ("from where a program starts", 'a text, "home", "anywhere" or "change"'),
     "spindle": ("whether a program has to start the spindle", "true or false, without quotes"),
     "steps": ("which programs cut the stock, one after the other", "1 to 16 tables, each under a line [[steps]]"),

@@ -151,13 +151,15 @@ class Sheet:
             f"Where the tip stands lower, does the tool touch nothing there? Is nothing on its way across higher than Z{high}?")
 
     def motion(self):
-        """Returns the point on exact paths and straight rapids."""
+        """Returns the point on exact paths, and on rapids that go straight or don't."""
         boxes = self.job.get("keep_out", [])
         low = sheet_facts.low_rapids(self.step.moves, max([self.job["top"], *(it[4] for it in boxes)]))
         exact, high = self.lines("G61"), "of stock and boxes" if boxes else "of the stock"
         sideways = f"No rapid goes sideways under the top {high}."
-        if low:
-            sideways = f"! {len(low):,} rapids go sideways under the top {high}, the first on line {low[0]}: the control must make straight rapids."
+        if self.job.get("rapids") == "axes":
+            sideways = "Each rapid was judged as of a control that runs each axis at its own speed; one that goes straight is safe too."
+        elif low:
+            sideways = f"! {len(low):,} rapids go sideways under the top {high}, the first on line {low[0]}: the control must make straight rapids, or the job have rapids = \"axes\"."
         missing = "! The program has no G61: set exact paths at the control (G64 rounds corners)."
         slack = self.job.get("slack", 0)
         if slack:

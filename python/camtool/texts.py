@@ -71,6 +71,11 @@ def job_text(job):
     return "".join(f"{key} = {json.dumps(value)}\n" for key, value in job.items())
 
 
+def bends(job, move):
+    """Returns whether the tip may go any way in the box of a move's ends: on a rapid along two axes or more, by `rapids`."""
+    return job.get("rapids") == "axes" and move.kind == "rapid" and sum(a != b for a, b in zip(move.start, move.end)) > 1
+
+
 def start_of(job):
     """Returns where a program starts; None where it brings the tip to its first place itself, from anywhere."""
     return (*job["home"], job["clear"]) if job.get("start", "home") == "home" else None

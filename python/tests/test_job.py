@@ -91,16 +91,17 @@ class Told(test_cutters.InAFolder):
                 self.assertTrue(any(wanted in it for it in notes), notes)
 
     def test_what_stands_on_the_machine(self):
-        keys = 'keep_out = [[900, 0, 990, 90, 300], [900, 0, 990, 90, -5]]\nstart = "anywhere"\nspindle = true\n'
+        keys = 'keep_out = [[900, 0, 990, 90, 300], [900, 0, 990, 90, -5]]\nrapids = "axes"\nstart = "anywhere"\nspindle = true\n'
         rows = dict(job.rows_of(job.Job(texts.job_of(text_of("plate", "job.toml") + keys.encode()))))
         self.assertEqual(rows["fixtures"], "2 to keep out of, the highest up to Z3.00")
         self.assertEqual(rows["start"], "from anywhere, up or down to Z4.00 or over it, and then across")
+        self.assertEqual(rows["rapids"], "each axis at its own speed: along two axes or more any way in the box of the ends")
         self.assertEqual(rows["program"][:12], "has to start")
         usual = dict(job.rows_of(job.Job(texts.job_of(text_of("plate", "job.toml")))))
         notes = list(job.notes_on_stock(job.Job(texts.job_of(text_of("plate", "job.toml") + b"keep_out = [[900, 9, 910, 10, 0], [150, 0, 990, 90, 300]]\n"))))
         told = [it.split(";")[0] for it in notes if it.startswith("keep_out")]
         self.assertEqual(told, ["keep_out: box 1 stands in area", "keep_out: box 0 isn't over floor, so nothing ever comes into it", "keep_out: with no holder_radius and stickout the holder may come into a box unseen"])
-        self.assertEqual((usual["start"], {"fixtures", "program"} & set(usual)), ("X1.00 Y1.00 Z4.00", set()))
+        self.assertEqual((usual["start"], {"fixtures", "rapids", "program"} & set(usual)), ("X1.00 Y1.00 Z4.00", set()))
 
     def test_slack_and_overcut(self):
         text = text_of("slack", "job.toml").decode()

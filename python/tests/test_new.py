@@ -100,9 +100,9 @@ class Jobs(test_cutters.InAFolder):
             ("half a unit", [TWO], ["--tool=flat 40.015"], dict(unit=None, radius=2001, overcut=5)),
             ("its own overcut", [TWO], ["--overcut=0.029"], dict(radius=300, overcut=2)),
             ("no overcut", [TWO], ["--overcut=0"], dict(radius=300, overcut=None)),
-            ("a vice", [TWO], ["--keep-out=-20.001,-5,-2,35,6.5", "--keep-out=42,-5,60,35,6.501", "--start=anywhere", "--spindle"], dict(
-                keep_out=[[-2001, -500, -200, 3500, 650], [4200, -500, 6000, 3500, 651]], start="anywhere", spindle=True, clear=1300)),
-            ("a plan in a vice", [], ["--tool=1", "--keep-out=-20,-5,-2,35,12"], dict(keep_out=[[-2000, -500, -200, 3500, 1200]], clear=1700, start=None, spindle=None)),
+            ("a vice", [TWO], ["--keep-out=-20.001,-5,-2,35,6.5", "--keep-out=42,-5,60,35,6.501", "--rapids=axes", "--start=anywhere", "--spindle"], dict(
+                keep_out=[[-2001, -500, -200, 3500, 650], [4200, -500, 6000, 3500, 651]], rapids="axes", start="anywhere", spindle=True, clear=1300)),
+            ("a plan in a vice", [], ["--tool=1", "--keep-out=-20,-5,-2,35,12"], dict(keep_out=[[-2000, -500, -200, 3500, 1200]], clear=1700, rapids=None, start=None, spindle=None)),
             ("a plan", [], ["--tool=1", "--layer=1"], dict(radius=300, overcut=None, area=[-300, -300, 4300, 3300], layer=100, rough_stock=30, max_cut=130, raster=50, lift=5, home=[0, 0], clear=1301)),
         ):
             with self.subTest(name):

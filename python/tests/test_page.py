@@ -4,6 +4,7 @@ import base64
 import html.parser
 import json
 import re
+import types
 import unittest
 from unittest import mock
 
@@ -257,6 +258,28 @@ class Page(made.Folder):
         self.assertEqual((found.way, round(found.amount), found.hit.tip), ("side", 50, (250, 0, 240)))
         found = page_findings.measured_box(job, item, Move(1, "feed", (400, 0, 400), (400, 0, 270)))
         self.assertEqual((found.way, round(found.amount)), ("deep", 30))
+
+    def test_a_rapid_that_may_bend(self):
+        job = {"cutter": "flat", "radius": 100, "rapids": "axes", "top": 300, "keep_out": [[500, -500, 900, -20, 250]]}
+        move = Move(1, "rapid", (0, 0, 200), (400, 50, 240))
+        seen = types.SimpleNamespace(job=job, steps=[page_read.Step("a.ngc", job, b"", [move])], triangles=[((420, 60, 0), (420, 90, 300), (500, 60, 0))])
+        for item, what, tip, place in (
+                (page_read.Item(0, "fixture", 0, 1, "", None, None, None, None, 0), "Cutter may come into box 0", (400, 0, 200), (500, -20, 250)),
+                (page_read.Item(0, "rapid", 0, 1, "", None, None, (0, 1, 50, 20, None), None), "Cutter may come into stock", (50, 20, 200), (50, 20, 300)),
+                (page_read.Item(0, "holder", 0, 1, "", None, 0, None, "0.10"), "Holder may come into the part", (400, 50, 200), (420, 60, 300))):
+            found = page_findings.measured_of(seen, item)
+            self.assertEqual((found.way, found.hit.tip, found.hit.place), ("bent", tip, place))
+            title, advice = page_findings.words_of_bent(found)
+            self.assertEqual((title[: len(what)], "with Z alone" in advice), (what, True))
+
+    def test_a_page_of_a_rapid_that_may_bend(self):
+        self.store("job.toml", made.JOB + 'keep_out = [[-400, 600, -250, 900, 500]]\nrapids = "axes"\n')
+        shown, line = self.made_of(made.HEAD + "G0 X-3.00 Y8.00 Z4.00\nG0 Z6.00\nM2\n")
+        told = " ".join(shown.said)
+        self.assertIn("rejected fixture move 0 box 0", line)
+        self.assertIn("Cutter may come into box 0 of", told)
+        self.assertIn("up first, with Z alone, and then across", told)
+        self.assertIn("each axis at its own speed</td>", self.read("page.html"))
 
     def test_where_a_view_cuts_a_box(self):
         job = {"keep_out": [[0, 0, 100, 50, 7], [0, 60, 10, 70, 8]]}

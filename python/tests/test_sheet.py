@@ -80,6 +80,12 @@ class Sheet(made.Folder):
                 "rapids go sideways under the top of stock and boxes, the first on line", "From any place: line 5 brings the tip straight up or down to Z6.00", "Each feed was judged to have a spindle"):
             self.assertTrue(wanted in said, (wanted, said))
 
+    def test_rapids_that_may_bend(self):
+        self.store("job.toml", made.JOB + 'rapids = "axes"\n')
+        _, said, _ = self.text_of(made.program())
+        self.assertIn("Each rapid was judged as of a control that runs each axis at its own speed", said)
+        self.assertNotIn("rapids go sideways", said)
+
     def test_a_page_for_each_program_of_a_list(self):
         rows = made.ROWS.split("G0 Z6.00\n")
         for name, some in (("one.ngc", rows[:6]), ("two.ngc", ["", *rows[6:]])):

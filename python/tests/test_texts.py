@@ -5,7 +5,7 @@ from unittest import mock
 from camtool import texts
 
 JOB = b'unit = "thousandth"\nhome = [1, # 3\n -2]\nclear = 3_000\narea = [0, 0, 0x10, +10] # mm\n'
-MACHINE = b"keep_out = [[0, 0, 1, 1, -5], # a clamp\n [2, 2, 3, 3, 4]]\nlevels = []\nstart = 'anywhere'\nspindle = true\n"
+MACHINE = b"keep_out = [[0, 0, 1, 1, -5], # a clamp\n [2, 2, 3, 3, 4]]\nlevels = []\nrapids = 'axes'\nstart = 'anywhere'\nspindle = true\n"
 
 
 class Lengths(unittest.TestCase):
@@ -31,11 +31,19 @@ class Documents(unittest.TestCase):
         self.assertEqual(texts.start_of(wanted), (1, -2, 3000))
 
     def test_fixtures_and_truth_values(self):
-        wanted = {"keep_out": [[0, 0, 1, 1, -5], [2, 2, 3, 3, 4]], "levels": [], "start": "anywhere", "spindle": True}
+        wanted = {"keep_out": [[0, 0, 1, 1, -5], [2, 2, 3, 3, 4]], "levels": [], "rapids": "axes", "start": "anywhere", "spindle": True}
         for reader in (texts.tomllib, None):
             with mock.patch.object(texts, "tomllib", reader):
                 self.assertEqual(texts.job_of(MACHINE), wanted)
                 self.assertEqual(texts.job_of(texts.job_text(wanted).encode()), wanted)
+
+    def test_rapids_that_may_bend(self):
+        move = lambda kind, *end: texts.Move(1, kind, (0, 0, 0), end)
+        for keys, one, wanted in (
+                ({"rapids": "axes"}, move("rapid", 1, 2, 0), True), ({"rapids": "axes"}, move("rapid", 1, 0, 3), True),
+                ({"rapids": "axes"}, move("rapid", 0, 0, 3), False), ({"rapids": "axes"}, move("rapid", 0, 0, 0), False),
+                ({"rapids": "axes"}, move("feed", 1, 2, 3), False), ({"rapids": "straight"}, move("rapid", 1, 2, 3), False), ({}, move("rapid", 1, 2, 3), False)):
+            self.assertEqual(texts.bends(keys, one), wanted, (keys, one))
 
     def test_lists(self):
         text = b'[[steps]]\nprogram = "a.ngc"\nradius = 3\n[[steps]]\nprogram = \'b.ngc\'\nradius = 4\n'

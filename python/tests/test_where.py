@@ -86,9 +86,22 @@ class Shown(unittest.TestCase):
         for wanted in ("the cutter comes into none of the 2 boxes of `keep_out`", "it may start from anywhere", "no line feeds before M3 or M4"):
             self.assertIn(wanted, "\n".join(said))
 
+    def test_a_rapid_that_may_bend(self):
+        with open(os.path.join(PLATE, "job.toml"), "rb") as file:
+            job = file.read() + b"keep_out = [[300, 0, 400, 200, 250]]\nrapids = 'axes'\n"
+        names = self.names(job=job, program=b"G21 G90\nG0 X5 Y5 Z2\nG0 Z4\nM2\n")
+        _, said = self.shown("rejected fixture move 0 box 0 leaf 0 0", names)
+        self.assertIn("it may go any way in the box of its two ends", "\n".join(said))
+        self.assertIn("up first with Z alone, and then across", "\n".join(said))
+        _, said = self.shown("rejected fixture move 1 box 0 leaf 1 0", names)
+        self.assertIn("the piece from X5.00 Y5.00 Z2.00 to X5.00 Y5.00 Z3.00 of it fails", "\n".join(said))
+        _, said = self.shown("accepted moves 2 columns 9 left 0.00 band 0.00 allowance 0.00", names)
+        self.assertIn("each axis may run at its own speed on a rapid", "\n".join(said))
+
     def test_refusals_of_the_new_keys(self):
         for line, wanted in (
                 ("refused job missing feed", "plan by a copy of the job without `spindle`"), ("refused job range keep_out", "at most 64"),
+                ("refused job range rapids", '"straight" or "axes"'),
                 ("refused job kind spindle", "true or false, without quotes"), ("refused job relation keep_out clear", "raise `clear` over clamps and vice"),
                 ("refused program line 2 start", "G0 with Z alone"), ("refused program line 2 no-spindle", "the spindle doesn't turn"), ("refused program line 2 no-feed", "an F over 0")):
             self.assertIn(wanted, self.last(line, self.names()))

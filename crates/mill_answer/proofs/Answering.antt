@@ -13,6 +13,7 @@ use Rattle.mill_block.specs.declared.fault.NgcFault.{NgcFault}
 use Rattle.mill_job.specs.declared.fields.JobFields.{JobFields}
 use Rattle.mill_job.specs.declared.fault.JobFault.{JobFault}
 use Rattle.mill_job.proofs.OneAnswer.{one_answer}
+use Rattle.mill_job.specs.Habits.{run_by}
 use Rattle.mill_verify.specs.Verdicts.{IsVerdict}
 use Rattle.mill_verify.specs.declared.verdict.Verdict.{Verdict}
 use Rattle.mill_load.specs.declared.file.File.TheVariants.{Job as JobFile, Part as PartFile, Program as ProgramFile, List as ListFile, StepProgram}
@@ -49,10 +50,10 @@ pub no_part_text : (job : JobFields) (text : List ℕ) (part : List Tri) (fault 
 no_part_text job text part fault r refused = ok_err (record { tris = part; rounded = r.rounded }) fault (sym r.reads ∙ refused.refused)
 
 pub program_text : (job : JobFields) (text : List ℕ) (a b : List Move) → IsProgramText job text a → IsProgramText job text b → a ≡ b
-program_text job text a b r s = ok_is a b (sym r.reads ∙ s.reads)
+program_text job text a b r s = r.made ∙ ap (run_by job.rapids) (ok_is r.read s.read (sym r.reads ∙ s.reads)) ∙ sym s.made
 
 pub no_program_text : (job : JobFields) (text : List ℕ) (moves : List Move) (fault : NgcFault) → IsProgramText job text moves → IsRefusedProgram job text fault → ⊥
-no_program_text job text moves fault r refused = ok_err moves fault (sym r.reads ∙ refused.refused)
+no_program_text job text moves fault r refused = ok_err r.read fault (sym r.reads ∙ refused.refused)
 
 -- ---- so does a file that is told
 

@@ -13,3 +13,4 @@ pub mod Ranges
 pub mod NodeLemmas
 pub mod SolidLemmas
 pub mod Extremes
+pub mod Tips

@@ -1,7 +1,7 @@
 -- A cutter, the points of a part, and the points that its moves remove.
 use Rattle.std.specs.Prelude.{◌≡◌, ℤ, pos, ◌*ℤ◌, ◌<ℤ◌, ◌≤ℤ◌, List, Contains}
 use Rattle.mill_base.specs.Points.{IsPointOf, minus, times, point_at}
-use Rattle.mill_base.specs.Motion.{IsMoment, tip_at}
+use Rattle.mill_base.specs.Motion.{IsSure, IsTipOf, tip_at}
 use Rattle.mill_base.specs.Cutters.{Inside}
 use Rattle.mill_base.specs.declared.points.Pt3.{Pt3}
 use Rattle.mill_base.specs.declared.points.Tri.{Tri}
@@ -25,18 +25,25 @@ pub record Gouges (cutter : Cutter) (m : ℤ) (t : Pt3) (part : List Tri) : Type
   pub member : Contains part tri
   pub touches : Touches cutter m t tri
 
--- at some moment of the move, some part point is strictly inside the cutter
+-- where the tip may be on the move, some part point is strictly inside the cutter
 pub record GougesOn (cutter : Cutter) (move : Move) (part : List Tri) : Type 0 where
-  pub k : ℤ
   pub m : ℤ
-  pub moment : IsMoment k m
-  pub gouges : Gouges cutter m (tip_at move k m) part
+  pub tip : Pt3
+  pub is : IsTipOf move m tip
+  pub gouges : Gouges cutter m tip part
 
--- at some moment of the move, the point p over n is strictly inside the cutter
+-- where the tip may be on the move, the point p over n is strictly inside the cutter
+pub record MayRemove (cutter : Cutter) (move : Move) (n : ℤ) (p : Pt3) : Type 0 where
+  pub m : ℤ
+  pub tip : Pt3
+  pub is : IsTipOf move m tip
+  pub inside : Holds cutter m tip n p
+
+-- at some moment of the move at which it is surely known where the tip is, the point p over n is strictly inside the cutter
 pub record Removes (cutter : Cutter) (move : Move) (n : ℤ) (p : Pt3) : Type 0 where
   pub k : ℤ
   pub m : ℤ
-  pub moment : IsMoment k m
+  pub moment : IsSure move k m
   pub inside : Holds cutter m (tip_at move k m) n p
 
 -- some move of the list removes the whole point p; else it is left

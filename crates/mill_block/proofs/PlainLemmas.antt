@@ -10,7 +10,7 @@ use Rattle.mill_base.specs.Ranges.{IsInUnitRange}
 use Rattle.mill_base.specs.Units.{greatest_of, places_of}
 use Rattle.mill_base.specs.declared.motion.Kind.{Kind}
 use Rattle.mill_base.specs.declared.motion.Move.{Move}
-use Rattle.mill_base.specs.declared.motion.Kind.TheVariants.{Rapid, Feed}
+use Rattle.mill_base.specs.declared.motion.Kind.TheVariants.{Rapid, Feed, Dogleg}
 use Rattle.mill_base.specs.declared.unit.Unit.{Unit as LengthUnit}
 use Rattle.mill_base.specs.declared.unit.Unit.TheVariants.{Hundredth, Thousandth}
 use Rattle.std.specs.Char.{to_ascii_uppercase}
@@ -214,6 +214,7 @@ drive-same true d s false changes spindle speed rate full = rw (full, changes, s
 drive-none : (asked : Bool) (kind : Kind) (d : Drive) (line : ℕ) → HasDrive asked d → driven_or_fault asked kind d line ≡ Ok tt
 drive-none false kind d line full = refl
 drive-none true Rapid d line full = refl
+drive-none true Dogleg d line full = refl
 drive-none true Feed d line full = rw full refl
 
 -- what the line says is its move

@@ -1,7 +1,7 @@
 -- What a feed needs beside its end: a spindle that turns, its speed, and a feed rate.
 use Rattle.std.specs.Prelude.{ℕ, ⊤, Bool, true, false, not, ◌&&◌, unwrap_or, if◌then◌else◌, Result, Ok, Err}
 use Rattle.mill_base.specs.declared.motion.Kind.{Kind}
-use Rattle.mill_base.specs.declared.motion.Kind.TheVariants.{Rapid, Feed}
+use Rattle.mill_base.specs.declared.motion.Kind.TheVariants.{Rapid, Feed, Dogleg}
 use Rattle.mill_block.specs.declared.fault.NgcFault.{NgcFault}
 use Rattle.mill_block.specs.declared.fault.NgcFault.TheVariants as fault
 use Rattle.mill_block.specs.declared.progress.Drive.{Drive}
@@ -20,6 +20,7 @@ driven d s = record { turns = unwrap_or s.spindle (d.turns && not s.changes); sp
 
 abbrev pub drive_fault : Kind → Drive → ℕ → Result ⊤ NgcFault
 drive_fault Rapid d line = Ok tt
+drive_fault Dogleg d line = Ok tt
 drive_fault Feed d line =
     if not (d.turns && d.speed) then Err (fault.NoSpindle line) else
     (if not d.rate then Err (fault.NoFeed line) else Ok tt)

@@ -65,7 +65,7 @@ impl Drive {
         ensures fault { IfErr result (λ f. drive_fault kind self line ≡ Err f) }
     {
         match kind {
-            Kind::Rapid => Ok(()),
+            Kind::Rapid | Kind::Dogleg => Ok(()),
             Kind::Feed => {
                 if !(self.turns && self.speed) {
                     return Err(NgcFault::NoSpindle { line });

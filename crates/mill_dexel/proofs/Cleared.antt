@@ -179,6 +179,6 @@ solid_stays_over solid p m over = record {
         more a b l h = omega (h, arith, ints)
 
 pub passes_after_cut : PassesAfterCut
-passes_after_cut job moves m next x y ok member low over =
+passes_after_cut job moves m next x y ok member low straight over =
     vertical_passes_point (stock_solid_of job).cutter (lifted (stock_solid_of job) next) (point_at x y (top_after job x y moves)) (solid_tip (stock_solid_of job) (pos 1) m.to)
-    (solid_stays_over (stock_solid_of job) m.to next over) (stock_solid_free job moves m x y ok member low)
+    straight (solid_stays_over (stock_solid_of job) m.to next over) (stock_solid_free job moves m x y ok member low)

@@ -29,3 +29,4 @@ pub mod Shows
 mod StockLaws
 pub mod Ranges
 mod Splits
+pub mod TestedAs

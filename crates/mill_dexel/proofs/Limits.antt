@@ -33,15 +33,15 @@ over_floor p m floor from to over = record {
 }
 
 pub passes_limit_after_cut : PassesLimitAfterCut
-passes_limit_after_cut job moves m next x y ok member low from to over =
+passes_limit_after_cut job moves m next x y ok member low from to straight over =
     let top = top_after job x y moves in
     let solid = stock_solid_of job in
     let lower = point_at m.to.x m.to.y (m.to.z -ℤ job.max_cut) in
     let ground = point_at m.to.x m.to.y job.floor in
     greater_is (λ h. SolidPassesPoint solid next (point_at x y h)) job.floor (top -ℤ job.max_cut)
-    (vertical_passes_point solid.cutter (lifted solid next) (point_at x y job.floor) (solid_tip solid (pos 1) ground) (solid_stays_over solid ground next (over_floor lower next job.floor from to over))
+    (vertical_passes_point solid.cutter (lifted solid next) (point_at x y job.floor) (solid_tip solid (pos 1) ground) straight (solid_stays_over solid ground next (over_floor lower next job.floor from to over))
     (free_under_tip solid.cutter (solid_tip solid (pos 1) ground) x y job.floor (stock_solid_ok job ok).cutter_ok (above job.floor)))
-    (vertical_passes_point solid.cutter (lifted solid next) (point_at x y (top -ℤ job.max_cut)) (solid_tip solid (pos 1) lower) (solid_stays_over solid lower next over)
+    (vertical_passes_point solid.cutter (lifted solid next) (point_at x y (top -ℤ job.max_cut)) (solid_tip solid (pos 1) lower) straight (solid_stays_over solid lower next over)
     (subst (λ (z : ℤ). IsFreeAt solid.cutter (point_at m.to.x m.to.y z) x y (top -ℤ job.max_cut)) (sym (as_low m.to.z job.max_cut))
     (free_below solid.cutter (solid_tip solid (pos 1) m.to) x y top job.max_cut (stock_solid_free job moves m x y ok member low))))
   where

@@ -1,4 +1,4 @@
--- A move that passes a line of points at one height, by halving, passes each point at or under it.
+-- A move that passes a line of points at one height passes each point at or under it.
 use Rattle.std.proofs.Common.{◌≡◌, inl, inr, ℕ, zero, suc, ◌+◌, ◌*◌, sym, subst, ap, ◌∙◌, arith}
 use Rattle.std.specs.Prelude.{ℤ, pos, ◌+ℤ◌, ◌-ℤ◌, ◌*ℤ◌, ◌<ℤ◌, ◌≤ℤ◌}
 use Rattle.std.proofs.lemmas.Int.{ints}
@@ -7,15 +7,19 @@ use Rattle.mill_base.specs.Numbers.{greater}
 use Rattle.mill_base.specs.Points.{IsPointOf, plus, minus, times, point_at, point_tri, highest}
 use Rattle.mill_base.specs.Cutters.{Inside}
 use Rattle.mill_base.specs.Contact.{Touches}
-use Rattle.mill_base.specs.Sizes.{outer}
+use Rattle.mill_base.specs.Sizes.{outer, radius_of}
 use Rattle.mill_base.specs.declared.points.Pt3.{Pt3}
 use Rattle.mill_base.specs.declared.points.Tri.{Tri}
+use Rattle.mill_base.specs.declared.motion.Kind.{Kind}
+use Rattle.mill_base.specs.declared.motion.Kind.TheVariants.{Rapid, Feed, Dogleg}
 use Rattle.mill_base.specs.declared.motion.Move.{Move}
 use Rattle.mill_base.specs.declared.cutter.Cutter.{Cutter}
 use Rattle.mill_shape.proofs.Over.{inside_raised}
 use Rattle.mill_job.specs.Jobs.{IsFrom}
 use Rattle.mill_sweep.specs.Leaves.{depth_of, span_of, outer_tip}
-use Rattle.mill_sweep.specs.Halving.{Blocks, IsFree, LeafPasses, Passes, PassesPoint}
+use Rattle.mill_sweep.specs.Halving.{Blocks, HalvingPasses, IsFree, LeafPasses}
+use Rattle.mill_sweep.specs.Passing.{BoxPasses, Passes, PassesBy, PassesPoint}
+use Rattle.mill_sweep.specs.Apart.{LieApart}
 use Rattle.mill_sweep.specs.declared.leaf.Span.{Span}
 use Rattle.mill_base.proofs.Extremes.{greater_left, greater_least}
 use Rattle.mill_dexel.proofs.LineCerts.{line_mean, line_end, line_some, line_part, line_weights, line_times, line_parts, line_level, line_offset, line_denominator, line_height}
@@ -134,5 +138,38 @@ module _ (cutter : Cutter) (m : Move) (x0 x1 y top x z : ℤ) (across : IsFrom x
   leaf_passes (suc more) d k (inl passes) = inl (free d k passes)
   leaf_passes (suc more) d k (inr halves) = inr (leaf_passes more (d + 1) (2 * k) halves.0, leaf_passes more (d + 1) (2 * k + 1) halves.1)
 
+  halving_passes : HalvingPasses cutter m (line_of x0 x1 y top) → HalvingPasses cutter m (point_tri (point_at x y z))
+  halving_passes passes = leaf_passes (depth_of m) 0 0 passes
+
+  -- what lies beside the line's two ends lies beside each point of it
+  beside : (r f t : ℤ) → LieApart r f t x0 x1 x1 → LieApart r f t x x x
+  beside r f t (inl over) = inl (record { a_e = east f over.a_e; b_e = east f over.a_e; c_e = east f over.a_e; a_f = east t over.a_f; b_f = east t over.a_f; c_f = east t over.a_f })
+    where
+      more : (e a b : ℤ) → a ≤ℤ b → (e +ℤ r) ≤ℤ a → (e +ℤ r) ≤ℤ b
+      more e a b h k = omega (arith, ints)
+
+      east : (e : ℤ) → (e +ℤ r) ≤ℤ x0 → (e +ℤ r) ≤ℤ x
+      east e h = more e x0 x across.low h
+  beside r f t (inr under) = inr (record { a_e = west f under.b_e; b_e = west f under.b_e; c_e = west f under.b_e; a_f = west t under.b_f; b_f = west t under.b_f; c_f = west t under.b_f })
+    where
+      less : (e a b : ℤ) → b ≤ℤ a → (a +ℤ r) ≤ℤ e → (b +ℤ r) ≤ℤ e
+      less e a b h k = omega (arith, ints)
+
+      west : (e : ℤ) → (x1 +ℤ r) ≤ℤ e → (x +ℤ r) ≤ℤ e
+      west e h = less e x1 x across.high h
+
+  box_passes : BoxPasses cutter m (line_of x0 x1 y top) → BoxPasses cutter m (point_tri (point_at x y z))
+  box_passes (inl low) = inl (most (highest (point_tri (point_at x y z))) (highest (line_of x0 x1 y top)) _ lower low)
+    where
+      most : (a b c : ℤ) → a ≤ℤ b → b ≤ℤ c → a ≤ℤ c
+      most a b c h k = omega (arith, ints)
+  box_passes (inr (inl far)) = inr (inl (beside (radius_of cutter) m.from.x m.to.x far))
+  box_passes (inr (inr far)) = inr (inr far)
+
   pub line_passes : Passes cutter m (line_of x0 x1 y top) → PassesPoint cutter m (point_at x y z)
-  line_passes passes = leaf_passes (depth_of m) 0 0 passes
+  line_passes = by m.kind
+    where
+      by : (kind : Kind) → PassesBy kind cutter m (line_of x0 x1 y top) → PassesBy kind cutter m (point_tri (point_at x y z))
+      by Rapid passes = halving_passes passes
+      by Feed passes = halving_passes passes
+      by Dogleg passes = box_passes passes

@@ -8,14 +8,17 @@ use Rattle.std.proofs.lemmas.List.Elements.{Contains-append_right}
 use Rattle.mill_base.proofs.Exit.{split_lt}
 use Rattle.mill_base.proofs.Ring.{Var, Num, Sub, Add, Mul, ring}
 use Rattle.mill_base.proofs.SolidLemmas.{higher_is}
+use Rattle.mill_base.proofs.Tips.{sure_is_tip}
 use Rattle.mill_base.proofs.Divisions.{half_low, half_high, ceil_div_high}
 use Rattle.mill_base.specs.Numbers.{square, divides, round_half_up}
 use Rattle.mill_base.specs.Points.{point_at}
-use Rattle.mill_base.specs.Motion.{IsMoment, tip_at}
+use Rattle.mill_base.specs.Motion.{IsMoment, IsSure, IsSureBy, tip_at}
 use Rattle.mill_base.specs.Contact.{Holds}
 use Rattle.mill_base.specs.Sizes.{IsCutter, radius_of, with_radius, inner, shift, cut_height_of}
 use Rattle.mill_base.specs.Solids.{Solid, higher, raised}
 use Rattle.mill_base.specs.declared.points.Pt3.{Pt3}
+use Rattle.mill_base.specs.declared.motion.Kind.{Kind}
+use Rattle.mill_base.specs.declared.motion.Kind.TheVariants.{Rapid, Feed, Dogleg}
 use Rattle.mill_base.specs.declared.motion.Move.{Move}
 use Rattle.mill_base.specs.declared.cutter.Cutter.{Cutter}
 use Rattle.mill_base.specs.declared.cutter.Cutter.TheVariants.{Flat, Ball, Cone}
@@ -26,13 +29,13 @@ use Rattle.mill_sweep.specs.Solids.{SolidPassesPoint}
 use Rattle.mill_sweep.proofs.Passing.{radius_least}
 use Rattle.mill_sweep.proofs.Solids.{passing_keeps_point}
 use Rattle.mill_job.specs.Jobs.{IsJob}
-use Rattle.mill_job.specs.Solids.{inner_of, stock_solid_of}
+use Rattle.mill_job.specs.Solids.{inner_of}
 use Rattle.mill_job.specs.declared.fields.JobFields.{JobFields}
 use Rattle.mill_job.proofs.NoSlack.{stock_is_inner}
 use Rattle.mill_job.proofs.SolidFacts.{inner_ok}
 use Rattle.mill_dexel.specs.Removed.{IsRemovedBy, SolidRemoves}
 use Rattle.mill_dexel.specs.declared.sample.Placed.{Placed}
-use Rattle.mill_dexel.specs.Samples.{placed, raised_sample, sample_at, solid_sample_at, split_of, sample_centre, is_at_whole_place}
+use Rattle.mill_dexel.specs.Samples.{placed, raised_sample, solid_sample_at, split_by, split_of, straight_split_of, sample_centre, is_at_whole_place}
 use Rattle.mill_dexel.specs.Tops.{top_after_sample, top_after_move}
 use Rattle.mill_dexel.specs.Laws.{OverTopIsRemoved, PassedIsLeft}
 use Rattle.mill_dexel.proofs.InnerCerts.{nearest_square}
@@ -55,6 +58,17 @@ moment_is d k h = by (2 ^ d) (pow_pos d) h
   where
     by : (n : ℕ) → 0 < n → k ≤ n → IsMoment (pos k) (pos n)
     by n some under = record { some = omega (arith, ints); after = omega (arith, ints); before = omega (arith, ints) }
+
+-- it is one at which it is surely known where the tip is, where the move is halved as often as for its samples
+sure_at : (sample : ℤ) (m : Move) (k : ℕ) → k ≤ 2 ^ split_of sample m → IsSure m (pos k) (pos (2 ^ split_of sample m))
+sure_at sample m = by m.kind
+  where
+    by : (kind : Kind) (k : ℕ) → k ≤ 2 ^ split_by kind sample m → IsSureBy kind (pos k) (pos (2 ^ split_by kind sample m))
+    by Rapid k h = moment_is (straight_split_of sample m) k h
+    by Feed k h = moment_is (straight_split_of sample m) k h
+    by Dogleg zero h = (moment_is 0 0 h, inl refl)
+    by Dogleg (suc zero) h = (moment_is 0 1 h, inr refl)
+    by Dogleg (suc (suc k)) h = let few : suc (suc k) ≤ 1 = h in absurd (omega (few, arith))
 
 -- at whole places a sample stands where the tip is
 on_place : (z w : ℤ) (n : ℕ) → 0 < n → divides n z ≡ true → divides n w ≡ true
@@ -136,9 +150,9 @@ module _ (cutter : Cutter) (l n : ℤ) (t : Pt3) (x y h : ℤ) where
   raised_up held = rw (lowered_is n h t.z l) held
 
 -- a sample of a solid that brings a top under h removes the point at h
-sample_removes : (solid : Solid) (m : Move) (d k : ℕ) (floor x y top h : ℤ) → IsCutter solid.cutter → k ≤ 2 ^ d → top_after_sample floor x y top (solid_sample_at solid m d k) <ℤ h
+sample_removes : (solid : Solid) (m : Move) (d k : ℕ) (floor x y top h : ℤ) → IsCutter solid.cutter → IsSure m (pos k) (pos (2 ^ d)) → top_after_sample floor x y top (solid_sample_at solid m d k) <ℤ h
     → (top <ℤ h) ⊎ SolidRemoves solid m (point_at x y h)
-sample_removes solid m d k floor x y top h size at_most =
+sample_removes solid m d k floor x y top h size sure =
     sample_cases solid.cutter m d k (λ s. top_after_sample floor x y top (raised_sample solid.lift s) <ℤ h → (top <ℤ h) ⊎ SolidRemoves solid m (point_at x y h))
     (λ whole under. elim (sample_holds (placed solid.cutter (raised solid.lift (pos 1) (sample_centre m d k))) floor x y top h size under) [
       | inl before ↦ inl before
@@ -154,17 +168,17 @@ sample_removes solid m d k floor x y top h size at_most =
     removes held = record {
       k = pos k;
       n = pos (2 ^ d);
-      moment = moment_is d k at_most;
+      moment = sure;
       inside = raised_up solid.cutter solid.lift (pos (2 ^ d)) (tip_at m (pos k) (pos (2 ^ d))) x y h held;
     }
 
 -- so do the samples from start on
-samples_remove : (solid : Solid) (m : Move) (d : ℕ) (floor x y h : ℤ) (start n : ℕ) (top : ℤ) → IsCutter solid.cutter → start + n ≤ 2 ^ d + 1
+samples_remove : (solid : Solid) (m : Move) (d : ℕ) (floor x y h : ℤ) (start n : ℕ) (top : ℤ) → IsCutter solid.cutter → ((k : ℕ) → k ≤ 2 ^ d → IsSure m (pos k) (pos (2 ^ d))) → start + n ≤ 2 ^ d + 1
     → fold (top_after_sample floor x y) top (map (solid_sample_at solid m d) (range_with_len start n)) <ℤ h → (top <ℤ h) ⊎ SolidRemoves solid m (point_at x y h)
-samples_remove solid m d floor x y h start zero top size within under = inl under
-samples_remove solid m d floor x y h start (suc n) top size within under =
-    elim (samples_remove solid m d floor x y h (start + 1) n (top_after_sample floor x y top (solid_sample_at solid m d start)) size (omega arith) under) [
-      | inl between ↦ sample_removes solid m d start floor x y top h size (omega arith) between
+samples_remove solid m d floor x y h start zero top size sure within under = inl under
+samples_remove solid m d floor x y h start (suc n) top size sure within under =
+    elim (samples_remove solid m d floor x y h (start + 1) n (top_after_sample floor x y top (solid_sample_at solid m d start)) size sure (omega arith) under) [
+      | inl between ↦ sample_removes solid m d start floor x y top h size (sure start (omega arith)) between
       | inr removes ↦ inr removes
     ]
 
@@ -172,7 +186,7 @@ samples_remove solid m d floor x y h start (suc n) top size within under =
 pub move_removes : (job : JobFields) (x y top h : ℤ) (m : Move) → IsJob job → top_after_move job x y top m <ℤ h
     → (top <ℤ h) ⊎ SolidRemoves (inner_of job) m (point_at x y h)
 move_removes job x y top h m ok under =
-    samples_remove (inner_of job) m (split_of job.sample m) job.floor x y h 0 (2 ^ split_of job.sample m + 1) top (inner_ok job ok).cutter_ok (all (2 ^ split_of job.sample m + 1)) under
+    samples_remove (inner_of job) m (split_of job.sample m) job.floor x y h 0 (2 ^ split_of job.sample m + 1) top (inner_ok job ok).cutter_ok (sure_at job.sample m) (all (2 ^ split_of job.sample m + 1)) under
   where
     all : (n : ℕ) → 0 + n ≤ n
     all n = omega arith
@@ -212,4 +226,4 @@ passed_is_left job m x y top h ok bare range top_in in_range under passes =
 
     no : (top <ℤ h) ⊎ SolidRemoves (inner_of job) m (point_at x y h) → h ≤ℤ top_after_move job x y top m
     no (inl before) = absurd (omega (arith, ints))
-    no (inr removes) = absurd (passing_keeps_point (inner_of job) m x y h h removes.k removes.n (inner_ok job ok) range in_range passes_inner (omega (arith, ints)) removes.moment removes.inside)
+    no (inr removes) = absurd (passing_keeps_point (inner_of job) m x y h h removes.n (tip_at m removes.k removes.n) (inner_ok job ok) range in_range passes_inner (omega (arith, ints)) (sure_is_tip m removes.k removes.n removes.moment) removes.inside)

@@ -8,10 +8,13 @@ use Rattle.mill_base.specs.Points.{point_tri}
 use Rattle.mill_base.specs.Solids.{Solid, lifted}
 use Rattle.mill_base.specs.declared.points.Pt3.{Pt3}
 use Rattle.mill_base.specs.declared.points.Tri.{Tri}
+use Rattle.mill_base.specs.declared.motion.Kind.{Kind}
+use Rattle.mill_base.specs.declared.motion.Kind.TheVariants.{Rapid, Feed, Dogleg}
 use Rattle.mill_base.specs.declared.motion.Move.{Move}
 use Rattle.mill_base.specs.declared.cutter.Cutter.{Cutter}
 use Rattle.mill_sweep.specs.Leaves.{depth_of}
-use Rattle.mill_sweep.specs.Halving.{FailsAt, LeadsTo}
+use Rattle.mill_sweep.specs.Halving.{LeadsTo}
+use Rattle.mill_sweep.specs.Passing.{FailsAt, LeadsBy}
 use Rattle.mill_sweep.specs.Solids.{SolidFailsAt}
 use Rattle.mill_sweep.specs.declared.leaf.Leaf.{Leaf}
 use Rattle.mill_job.specs.Solids.{holder_solid_of}
@@ -184,7 +187,12 @@ leads_to_one cutter m tri (suc more) d k a b (inr h) (inl g) = absurd (g.0 h.0)
 leads_to_one cutter m tri (suc more) d k a b (inr h) (inr g) = leads_to_one cutter m tri more (d + 1) (2 * k + 1) a b h.1 g.1
 
 pub leaf_is_one : (cutter : Cutter) (m : Move) (tri : Tri) (a b : Leaf) → FailsAt cutter m tri a → FailsAt cutter m tri b → a ≡ b
-leaf_is_one cutter m tri a b h g = leads_to_one cutter m tri (depth_of m) 0 0 a b h.leads g.leads
+leaf_is_one cutter m tri a b h g = by m.kind h.leads g.leads
+  where
+    by : (kind : Kind) → LeadsBy kind cutter m tri a → LeadsBy kind cutter m tri b → a ≡ b
+    by Rapid h g = leads_to_one cutter m tri (depth_of m) 0 0 a b h g
+    by Feed h g = leads_to_one cutter m tri (depth_of m) 0 0 a b h g
+    by Dogleg h g = same_leaf a b (h.d ∙ sym g.d) (h.k ∙ sym g.k)
 
 -- a test of a row has one first stop
 first_is_one : (job : JobFields) (t : Test) (r : RowState) (i k : ℕ) (a b : Leaf) → IsFirstStop job t r i a → IsFirstStop job t r k b → (i ≡ k) × (a ≡ b)

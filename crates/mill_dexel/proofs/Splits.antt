@@ -11,7 +11,7 @@ use Rattle.mill_base.specs.declared.limits.TheConstants.{MAX_COORDINATE}
 use Rattle.mill_base.specs.declared.motion.Move.{Move}
 use Rattle.mill_sweep.specs.Leaves.{length_x, length_y}
 use Rattle.mill_sweep.specs.Widths.{longest, end_depth, farthest_end}
-use Rattle.mill_dexel.specs.Samples.{is_split, split_of}
+use Rattle.mill_dexel.specs.Samples.{is_split, straight_split_of}
 
 -- the least number that passes a test: this one, or one from the next on
 found : (test : ℕ → Bool) (more start : ℕ) → test start ≡ true → least_from test (suc more) start ≡ start
@@ -33,7 +33,7 @@ tested : (sample : ℤ) (m : Move) (s length d : ℕ) (b : Bool) → s ≡ nat_a
 tested sample m s length d b es el eb = rw (eb, es, el) refl
 
 pub split_found : (sample : ℤ) (m : Move) (s length d : ℕ) (b : Bool) → s ≡ nat_abs sample → length ≡ length_x m + length_y m → b ≡ nat_le length (s * 2 ^ d) → b ≡ true → d < end_depth
-    → least_from (is_split sample m) (64 - d) d ≡ split_of sample m → d ≡ split_of sample m
+    → least_from (is_split sample m) (64 - d) d ≡ straight_split_of sample m → d ≡ straight_split_of sample m
 split_found sample m s length d b es el eb passes less so_far =
     let left : 64 - d ≡ suc (63 - d) = omega arith in
     sym (found (is_split sample m) (63 - d) d (sym (tested sample m s length d b es el eb) ∙ passes))
@@ -41,7 +41,7 @@ split_found sample m s length d b es el eb passes less so_far =
     ∙ so_far
 
 pub split_passed : (sample : ℤ) (m : Move) (s length d : ℕ) (b : Bool) → s ≡ nat_abs sample → length ≡ length_x m + length_y m → b ≡ nat_le length (s * 2 ^ d) → b ≡ false → d < end_depth
-    → least_from (is_split sample m) (64 - d) d ≡ split_of sample m → least_from (is_split sample m) (64 - (d + 1)) (d + 1) ≡ split_of sample m
+    → least_from (is_split sample m) (64 - d) d ≡ straight_split_of sample m → least_from (is_split sample m) (64 - (d + 1)) (d + 1) ≡ straight_split_of sample m
 split_passed sample m s length d b es el eb fails less so_far =
     let left : 64 - d ≡ suc (63 - d) = omega arith in
     let rest : 64 - (d + 1) ≡ 63 - d = omega arith in
@@ -55,9 +55,9 @@ within_is a b h = grind arith
 
 -- after so many halvings a move in range is split for every sample
 pub split_last : (sample : ℤ) (m : Move) (length d : ℕ) → (pos 1) ≤ℤ sample → length ≡ length_x m + length_y m → length ≤ 2 * longest → d ≡ end_depth
-    → least_from (is_split sample m) (64 - d) d ≡ split_of sample m → end_depth ≡ split_of sample m
+    → least_from (is_split sample m) (64 - d) d ≡ straight_split_of sample m → end_depth ≡ straight_split_of sample m
 split_last sample m length d least el short e so_far =
-    sym (found (is_split sample m) (63 - end_depth) end_depth (long (nat_abs sample) (omega (arith, ints)))) ∙ subst (λ (n : ℕ). least_from (is_split sample m) (64 - n) n ≡ split_of sample m) e so_far
+    sym (found (is_split sample m) (63 - end_depth) end_depth (long (nat_abs sample) (omega (arith, ints)))) ∙ subst (λ (n : ℕ). least_from (is_split sample m) (64 - n) n ≡ straight_split_of sample m) e so_far
   where
     long : (s : ℕ) → 1 ≤ s → nat_le (length_x m + length_y m) (s * 2 ^ end_depth) ≡ true
     long s h = within_is (length_x m + length_y m) (s * 2 ^ end_depth) (omega arith)

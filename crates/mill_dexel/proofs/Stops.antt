@@ -4,6 +4,7 @@ use Rattle.std.specs.Prelude.{Option, Some, None, IfSome, MatchOption}
 use Rattle.mill_base.specs.Solids.{Solid}
 use Rattle.mill_base.specs.declared.motion.Move.{Move}
 use Rattle.mill_base.specs.declared.motion.Kind.{Kind}
+use Rattle.mill_base.specs.declared.motion.Kind.TheVariants.{Rapid, Dogleg}
 use Rattle.mill_job.specs.Solids.{holder_solid_of}
 use Rattle.mill_job.specs.declared.fields.JobFields.{JobFields}
 use Rattle.mill_sweep.specs.declared.leaf.Leaf.{Leaf}
@@ -13,6 +14,12 @@ use Rattle.mill_dexel.specs.Turns.{ClearsRow, CutClearsRow, CutStopsAt, StopsAt,
 use Rattle.mill_dexel.specs.declared.fail.RowFail.{RowFail}
 use Rattle.mill_dexel.specs.declared.fail.RowTest.{RowTest}
 use Rattle.mill_dexel.specs.declared.fail.RowTest.TheVariants as test
+
+-- a dogleg is tested where a straight rapid is
+pub at_top : (job : JobFields) (r : RowState) (m : Move) (o : Option (ℕ × Leaf)) → MatchOption o (PassesRow job (cutting job Rapid m) r) (λ s. IsFirstStop job (cutting job Rapid m) r s.0 s.1)
+    → MatchOption o (PassesRow job (cutting job Dogleg m) r) (λ s. IsFirstStop job (cutting job Dogleg m) r s.0 s.1)
+at_top job r m None passes = passes
+at_top job r m (Some s) stop = record { column = stop.column; before = stop.before; fails = stop.fails }
 
 -- what the test of a kind finds, for a move of that kind
 module _ (job : JobFields) (r : RowState) (m : Move) (kind : Kind) (is : m.kind ≡ kind) where

@@ -18,14 +18,13 @@ use Rattle.mill_base.specs.Solids.{IsSolid, lifted}
 use Rattle.mill_base.specs.Units.{greatest_of}
 use Rattle.mill_base.specs.declared.motion.Move.{Move}
 use Rattle.mill_base.specs.declared.motion.Kind.{Kind}
-use Rattle.mill_base.specs.declared.motion.Kind.TheVariants.{Rapid, Feed}
+use Rattle.mill_base.specs.declared.motion.Kind.TheVariants.{Rapid, Feed, Dogleg}
 use Rattle.mill_base.specs.declared.unit.Unit.{Unit}
 use Rattle.mill_job.specs.Solids.{stock_solid_of}
 use Rattle.mill_sweep.specs.Solids.{SolidPasses}
 use Rattle.mill_job.specs.declared.fields.JobFields.{JobFields}
 use Rattle.mill_job.specs.Columns.{row_count, column_count, column_x, column_y}
 use Rattle.mill_job.specs.Jobs.{IsJob, IsFrom}
-use Rattle.mill_sweep.specs.Halving.{Passes}
 use Rattle.mill_dexel.specs.Rows.{RowState, IsRowOf, Test, cutting, PassesRow, top_at, row_point, uncut_tri}
 use Rattle.mill_dexel.specs.Tops.{cut_limit, tested_height}
 use Rattle.mill_base.proofs.Extremes.{greater_left, greater_right, greater_least, most_is}
@@ -56,6 +55,7 @@ row_within job j is_job there =
 -- a move is tested from the floor to the top, and the higher the top, the higher
 pub tested_from_floor : (job : JobFields) (kind : Kind) (top : ℤ) → job.floor ≤ℤ top → (pos 0) ≤ℤ job.max_cut → IsFrom job.floor top (tested_height job kind top)
 tested_from_floor job Rapid top low some = record { low = low; high = omega (arith, ints) }
+tested_from_floor job Dogleg top low some = record { low = low; high = omega (arith, ints) }
 tested_from_floor job Feed top low some = record { low = greater_left job.floor (top -ℤ job.max_cut); high = greater_least job.floor (top -ℤ job.max_cut) top low (less top job.max_cut some) }
   where
     less : (a b : ℤ) → (pos 0) ≤ℤ b → (a -ℤ b) ≤ℤ a
@@ -63,6 +63,7 @@ tested_from_floor job Feed top low some = record { low = greater_left job.floor 
 
 tested_higher : (job : JobFields) (kind : Kind) (low high : ℤ) → low ≤ℤ high → tested_height job kind low ≤ℤ tested_height job kind high
 tested_higher job Rapid low high order = order
+tested_higher job Dogleg low high order = order
 tested_higher job Feed low high order =
     greater_least job.floor (low -ℤ job.max_cut) (greater job.floor (high -ℤ job.max_cut)) (greater_left job.floor (high -ℤ job.max_cut))
     (under low high job.max_cut (greater job.floor (high -ℤ job.max_cut)) order (greater_right job.floor (high -ℤ job.max_cut)))

@@ -1,5 +1,6 @@
 -- What a column's top implies.
 use Rattle.std.specs.Prelude.{◌≡◌, ℤ, pos, ◌-ℤ◌, ◌<ℤ◌, ◌≤ℤ◌, List, Contains}
+use Rattle.mill_base.specs.Motion.{IsStraight}
 use Rattle.mill_base.specs.Points.{point_at}
 use Rattle.mill_base.specs.Solids.{SolidHolds}
 use Rattle.mill_base.specs.Ranges.{MoveInRange, MovesInRange, IsInRange}
@@ -23,15 +24,15 @@ abbrev pub CutAtEnd : Type 0
 CutAtEnd = (job : JobFields) (moves : List Move) (m : Move) (x y : ℤ) → IsJob job → Contains moves m → job.floor ≤ℤ m.to.z
     → ¬ SolidHolds (inner_of job) (pos 1) m.to (pos 1) (point_at x y (top_after job x y moves))
 
--- so a move straight up from there, or down to there, passes every column
+-- so a straight move up from there, or down to there, passes every column
 abbrev pub PassesAfterCut : Type 0
-PassesAfterCut = (job : JobFields) (moves : List Move) (m next : Move) (x y : ℤ) → IsJob job → Contains moves m → job.floor ≤ℤ m.to.z → StaysOver m.to next
+PassesAfterCut = (job : JobFields) (moves : List Move) (m next : Move) (x y : ℤ) → IsJob job → Contains moves m → job.floor ≤ℤ m.to.z → IsStraight next → StaysOver m.to next
     → SolidPassesPoint (stock_solid_of job) next (point_at x y (top_after job x y moves))
 
 -- a feed straight down from there, by at most the greatest depth of cut and not under the floor, passes every column as low as it may cut
 abbrev pub PassesLimitAfterCut : Type 0
 PassesLimitAfterCut = (job : JobFields) (moves : List Move) (m next : Move) (x y : ℤ) → IsJob job → Contains moves m → job.floor ≤ℤ m.to.z
-    → job.floor ≤ℤ next.from.z → job.floor ≤ℤ next.to.z → StaysOver (point_at m.to.x m.to.y (m.to.z -ℤ job.max_cut)) next
+    → job.floor ≤ℤ next.from.z → job.floor ≤ℤ next.to.z → IsStraight next → StaysOver (point_at m.to.x m.to.y (m.to.z -ℤ job.max_cut)) next
     → SolidPassesPoint (stock_solid_of job) next (point_at x y (cut_limit job (top_after job x y moves)))
 
 -- a move that passes a point of a column, without a graze, leaves the column up to there

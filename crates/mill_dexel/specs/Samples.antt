@@ -7,6 +7,8 @@ use Rattle.mill_base.specs.Sizes.{IsCutter, inner, shift}
 use Rattle.mill_base.specs.Solids.{Solid, raised}
 use Rattle.mill_base.specs.declared.limits.TheConstants.{MAX_COORDINATE}
 use Rattle.mill_base.specs.declared.points.Pt3.{Pt3}
+use Rattle.mill_base.specs.declared.motion.Kind.{Kind}
+use Rattle.mill_base.specs.declared.motion.Kind.TheVariants.{Rapid, Feed, Dogleg}
 use Rattle.mill_base.specs.declared.motion.Move.{Move}
 use Rattle.mill_base.specs.declared.cutter.Cutter.{Cutter}
 use Rattle.mill_shape.specs.declared.height.TheConstants.{HIGHEST_TIP}
@@ -22,8 +24,17 @@ abbrev pub is_split : ℤ → Move → ℕ → Bool
 is_split sample m d = nat_le (length_x m + length_y m) (nat_abs sample * 2 ^ d)
 
 -- the least such d, up to 64
+abbrev pub straight_split_of : ℤ → Move → ℕ
+straight_split_of sample m = least_from (is_split sample m) 64 0
+
+-- how often a move is halved for its samples: a dogleg not at all, since its tip is surely at its two ends alone
+abbrev pub split_by : Kind → ℤ → Move → ℕ
+split_by Rapid sample m = straight_split_of sample m
+split_by Feed sample m = straight_split_of sample m
+split_by Dogleg sample m = 0
+
 abbrev pub split_of : ℤ → Move → ℕ
-split_of sample m = least_from (is_split sample m) 64 0
+split_of sample m = split_by m.kind sample m
 
 -- the tip at k/2^d at a whole place: x and y rounded to the nearest whole number, halves up, and z rounded up
 abbrev pub sample_centre : Move → ℕ → ℕ → Pt3

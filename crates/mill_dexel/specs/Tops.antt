@@ -7,7 +7,7 @@ use Rattle.mill_base.specs.Sizes.{cut_height_of}
 use Rattle.mill_base.specs.declared.points.Pt3.{Pt3}
 use Rattle.mill_base.specs.declared.motion.Move.{Move}
 use Rattle.mill_base.specs.declared.motion.Kind.{Kind}
-use Rattle.mill_base.specs.declared.motion.Kind.TheVariants.{Rapid, Feed}
+use Rattle.mill_base.specs.declared.motion.Kind.TheVariants.{Rapid, Feed, Dogleg}
 use Rattle.mill_job.specs.declared.fields.JobFields.{JobFields}
 use Rattle.mill_job.specs.Columns.{IsColumn, column_x, column_y, column_count}
 use Rattle.mill_job.specs.Solids.{holder_solid_of, inner_of, stock_solid_of}
@@ -68,15 +68,23 @@ tops_after_move job j i m (t ∷ ts) = top_after_move job (column_x job i) (colu
 abbrev pub cut_limit : JobFields → ℤ → ℤ
 cut_limit job top = greater job.floor (top -ℤ job.max_cut)
 
--- the height at which a move of this kind is tested at a column with this top: a rapid at the top, and a feed as low as it may cut
+-- as what a move of this kind is tested by the stock: a rapid, straight or not, as a rapid
+abbrev pub tested_as : Kind → Kind
+tested_as Rapid = Rapid
+tested_as Feed = Feed
+tested_as Dogleg = Rapid
+
+-- the height at which a move of this kind is tested at a column with this top: a rapid, straight or not, at the top, and a feed as low as it may cut
 abbrev pub tested_height : JobFields → Kind → ℤ → ℤ
 tested_height job Rapid top = top
 tested_height job Feed top = cut_limit job top
+tested_height job Dogleg top = top
 
--- a move of this kind is tested: a rapid always, and a feed where the job limits the depth of cut
+-- a move of this kind is tested: a rapid, straight or not, always, and a feed where the job limits the depth of cut
 abbrev pub IsTested : JobFields → Kind → Type 0
 IsTested job Rapid = Unit {0}
 IsTested job Feed = (pos 0) <ℤ job.max_cut
+IsTested job Dogleg = Unit {0}
 
 -- the point of column i of row j of a stock at which a move of this kind is tested
 abbrev pub tested_point_on : JobFields → Kind → Stock → ℕ → ℕ → Pt3

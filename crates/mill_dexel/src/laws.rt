@@ -11,7 +11,7 @@ pub fn cut_at_end()
     ensures { CutAtEnd }
 {}
 
-/// Once the moves are made, a move straight up from the end of any of them, or straight down to it,
+/// Once the moves are made, a straight move up from the end of any of them, or straight down to it,
 /// passes the top of every column, where that end isn't under the floor.
 pub fn passes_after_cut()
     ensures { PassesAfterCut }

@@ -329,6 +329,7 @@ impl Row {
         match step.kind {
             Kind::Rapid => self.rapid_turn(job, step),
             Kind::Feed => self.cut_test(job, step),
+            Kind::Dogleg => self.rapid_turn(job, step),
         }
     }
 
@@ -469,8 +470,8 @@ fn end_before(moves: &[Move], t: u64) -> Option<Pt3>
     Some(moves[(t - 1) as usize].to)
 }
 
-/// The height at which a move of this kind is tested at a column with this top: a rapid at the top, and a
-/// feed as far under it as it may cut, or at the floor where that is higher.
+/// The height at which a move of this kind is tested at a column with this top: a rapid, straight or not,
+/// at the top, and a feed as far under it as it may cut, or at the floor where that is higher.
 fn tested_height(job: &Job, kind: Kind, top: i32) -> i32
     requires { IsFrom job.now.fields.floor job.now.fields.top top }
     ensures value { result ≡ tested_height_of job.now.fields kind top }
@@ -480,6 +481,7 @@ fn tested_height(job: &Job, kind: Kind, top: i32) -> i32
     match kind {
         Kind::Rapid => top,
         Kind::Feed => job.fields.floor.max(top - job.fields.max_cut),
+        Kind::Dogleg => top,
     }
 }
 

@@ -5,9 +5,9 @@ ghost use Rattle.mill_base.specs.Ranges.{IsInRange, MoveInRange};
 ghost use Rattle.mill_base.specs.Sizes.{IsCutter};
 ghost use Rattle.mill_sweep.specs.Leaves.{length_x, length_y, end_of};
 ghost use Rattle.mill_sweep.specs.Widths.{longest, end_depth, farthest_end};
-ghost use Rattle.mill_dexel.specs.Samples.{split_of, sample_centre, is_at_whole_place as is_whole_at, sample_at as sample_of, IsSample, IsNarrowed};
+ghost use Rattle.mill_dexel.specs.Samples.{split_of, straight_split_of, sample_centre, is_at_whole_place as is_whole_at, sample_at as sample_of, IsSample, IsNarrowed};
 
-use mill_base::{Cutter, MAX_DEPTH, Move, Pt3, power_of_two};
+use mill_base::{Cutter, Kind, MAX_DEPTH, Move, Pt3, power_of_two};
 use mill_sweep::{end_at, nearest};
 
 /// How often a move is halved at most until its parts are as short as the shortest sample.
@@ -23,13 +23,28 @@ pub struct Placed {
 }
 
 /// The least number of halvings after which the parts of the move are at most `sample` long, in x
-/// and y together. `sample` is a length in units, from 1 to 10,000; the move's coordinates are of at
-/// most 524,287 in magnitude.
+/// and y together; 0 for a dogleg, whose tip is surely at its two ends alone. `sample` is a length
+/// in units, from 1 to 10,000; the move's coordinates are of at most 524,287 in magnitude.
 pub fn halvings(step: &Move, sample: u32) -> u32
     requires step_ok { MoveInRange step.now }
     requires sample_least { 1 ≤ sample }
     requires sample_most { sample ≤ 10000 }
     ensures value { result ≡ split_of (pos sample) step.now }
+    ensures most { result ≤ end_depth }
+{
+    match step.kind {
+        Kind::Rapid => straight_halvings(step, sample),
+        Kind::Feed => straight_halvings(step, sample),
+        Kind::Dogleg => 0,
+    }
+}
+
+/// The same of a straight move.
+fn straight_halvings(step: &Move, sample: u32) -> u32
+    requires step_ok { MoveInRange step.now }
+    requires sample_least { 1 ≤ sample }
+    requires sample_most { sample ≤ 10000 }
+    ensures value { result ≡ straight_split_of (pos sample) step.now }
     ensures most { result ≤ end_depth }
 {
     let length = length(step);

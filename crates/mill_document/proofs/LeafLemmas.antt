@@ -11,11 +11,14 @@ use Rattle.mill_base.specs.Ranges.{MoveInRange}
 use Rattle.mill_base.specs.Solids.{Solid, higher, lifted}
 use Rattle.mill_base.specs.declared.cutter.Cutter.{Cutter}
 use Rattle.mill_base.specs.declared.limits.TheConstants.{MAX_COORDINATE, MAX_DEPTH}
+use Rattle.mill_base.specs.declared.motion.Kind.{Kind}
+use Rattle.mill_base.specs.declared.motion.Kind.TheVariants.{Rapid, Feed, Dogleg}
 use Rattle.mill_base.specs.declared.motion.Move.{Move}
 use Rattle.mill_base.specs.declared.points.Tri.{Tri}
 use Rattle.mill_document.specs.inner.Leaves.{IsLeaf}
 use Rattle.mill_sweep.specs.Halving.{LeadsTo}
 use Rattle.mill_sweep.specs.Leaves.{depth_of, length_x, length_y, length_z}
+use Rattle.mill_sweep.specs.Passing.{LeadsBy}
 use Rattle.mill_sweep.specs.Solids.{SolidFailsAt}
 use Rattle.mill_sweep.specs.declared.leaf.Leaf.{Leaf}
 
@@ -82,8 +85,19 @@ leads_within cutter m tri (suc more) d k leaf (inr right) lt =
     (omega arith, h.1)
 
 pub failing_leaf : (solid : Solid) (m : Move) (tri : Tri) (leaf : Leaf) → MoveInRange m → SolidFailsAt solid m tri leaf → IsLeaf leaf
-failing_leaf solid m tri leaf range fails =
-    let deep = depth_most solid m range in
-    let h = leads_within solid.cutter (lifted solid m) tri (depth_of (lifted solid m)) 0 0 leaf fails.leads (omega arith) in
-    let least = h.0 in
-    record { depth = omega arith; number = h.1 }
+failing_leaf solid m tri leaf range fails = by m.kind fails.leads
+  where
+    halved : LeadsTo solid.cutter (lifted solid m) tri (depth_of (lifted solid m)) 0 0 leaf → IsLeaf leaf
+    halved leads =
+        let deep = depth_most solid m range in
+        let h = leads_within solid.cutter (lifted solid m) tri (depth_of (lifted solid m)) 0 0 leaf leads (omega arith) in
+        let least = h.0 in
+        record { depth = omega arith; number = h.1 }
+
+    whole : (d k : ℕ) → d ≡ 0 → k ≡ 0 → (d ≤ MAX_DEPTH) × (k < 2 ^ d)
+    whole d k e g = rw (e, g) (omega arith, omega arith)
+
+    by : (kind : Kind) → LeadsBy kind solid.cutter (lifted solid m) tri leaf → IsLeaf leaf
+    by Rapid leads = halved leads
+    by Feed leads = halved leads
+    by Dogleg h = let w = whole leaf.d leaf.k h.d h.k in record { depth = w.0; number = w.1 }

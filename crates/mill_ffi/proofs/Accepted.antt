@@ -1,10 +1,11 @@
 -- The verifier accepts what the planner writes.
 use Rattle.std.proofs.Common.{◌≡◌, ap, ◌∙◌}
-use Rattle.std.specs.Prelude.{ℕ, List}
+use Rattle.std.specs.Prelude.{ℕ, List, map}
 use Rattle.mill_job.specs.Columns.{home}
 use Rattle.mill_block.specs.declared.rules.Rules.{Rules}
 use Rattle.mill_load.proofs.Asked.{asks_start}
 use Rattle.mill_ngc.specs.Programs.{program_of}
+use Rattle.mill_ngc.specs.Writing.{as_written}
 use Rattle.mill_plan.specs.Plans.{answer_of}
 use Rattle.mill_plan.specs.declared.planned.Planned.{Planned}
 use Rattle.mill_verify.specs.declared.verdict.Verdict.TheVariants.{Accept}
@@ -19,7 +20,11 @@ module _ (job_text part_text : List ℕ) (made : Planned) where
     part = p.part;
     moves = p.is.moves;
     setup_is = p.setup_is;
-    moves_are = ap (λ (asked : Rules). program_of (home p.job) p.job.unit asked made.program.items) (asks_start p.job p.still) ∙ p.is.reads;
+    moves_are = record {
+      read = map as_written p.is.moves;
+      reads = ap (λ (asked : Rules). program_of (home p.job) p.job.unit asked made.program.items) (asks_start p.job p.still) ∙ p.is.reads;
+      made = p.is.made;
+    };
     is = p.is.accepted;
     safe = λ more wide high e. p.is.safe;
     blocked = λ why e. absurd cc;

@@ -9,7 +9,7 @@ use Rattle.mill_job.specs.Documents.{IsJobOf}
 use Rattle.mill_job.specs.declared.fault.JobFault.{JobFault}
 use Rattle.mill_job.specs.declared.fault.JobFault.TheVariants as job_fault
 use Rattle.mill_job.specs.declared.fields.JobFields.{JobFields}
-use Rattle.mill_load.specs.Programs.{rules_of}
+use Rattle.mill_load.specs.Programs.{SaysMoves, rules_of}
 use Rattle.mill_ngc.specs.Programs.{program_of}
 use Rattle.mill_block.specs.declared.fault.NgcFault.{NgcFault}
 use Rattle.mill_block.specs.declared.fault.NgcFault.TheVariants as program_fault
@@ -74,7 +74,7 @@ pub record IsVerdictFor (job_text part_text program_text : List ℕ) (verdict : 
   pub part : List Tri
   pub moves : List Move
   pub setup_is : ReadsSetup job_text part_text job part
-  pub moves_are : program_of (home job) job.unit (rules_of job) program_text ≡ Ok moves
+  pub moves_are : SaysMoves job program_text moves
   pub is : IsVerdict job part moves verdict
   pub safe : (count columns : ℕ) (left : ℤ) → verdict ≡ Accept count columns left → CutsSafely job part moves
   pub blocked : (why : Reason) → verdict ≡ Reject why → NamesLeaf job part (uncut job) moves why

@@ -8,7 +8,7 @@ ghost use Rattle.mill_ffi.specs.Judged.{IsSetupCause, ReadsSetup, fault_of_job, 
 ghost use Rattle.mill_ffi_data.specs.declared.fault.Fault.TheVariants as fault;
 ghost use Rattle.mill_job.specs.Columns.{home};
 ghost use Rattle.mill_job.specs.Documents.{IsJobOf};
-ghost use Rattle.mill_load.specs.Programs.{rules_of};
+ghost use Rattle.mill_load.specs.Programs.{SaysMoves, rules_of};
 ghost use Rattle.mill_ngc.specs.Pieces.{AreSound};
 ghost use Rattle.mill_ngc.specs.Programs.{program_of};
 
@@ -16,7 +16,7 @@ use crate::text::{fault_from, line_from};
 use mill_base::{Move, Pt3, Unit, WantOfMemory};
 use mill_ffi_data::{Fault, RawVerdict};
 use mill_job::{Job, JobFault, read_job};
-use mill_load::rules_for;
+use mill_load::{rules_for, run_moves};
 use mill_ngc::{NgcFault, Reader, Rules};
 use mill_part::Part;
 use mill_stl::read_stl;
@@ -142,18 +142,19 @@ fn height_over(job: &Job, part: &Part) -> Option<i32>
     }
 }
 
-/// The moves of a program's text for a job, by the job's rules.
+/// The moves of a program's text for a job, by the job's rules, as its machine makes them.
 pub fn moves_for(alloc: Global, job: &Job, text: &[u8]) -> Result<Vec<Move>, Stop>
-    ensures reads { IfOk result (λ moves.
-        program_of (home job.now.fields) job.now.fields.unit (rules_of job.now.fields)
-        text.now ≡ Ok moves.items) }
+    ensures reads { IfOk result (λ moves. SaysMoves job.now.fields text.now moves.items) }
     ensures sound { IfOk result (λ moves.
         AreSound (home job.now.fields) job.now.fields.unit (rules_of job.now.fields) moves.items) }
     ensures cause { IfErr result (λ stop.
         IsProgramCause job.now.fields text.now stop.told stop.fault) }
 {
     match moves_from(alloc, job.home(), job.fields.unit, rules_for(job), text) {
-        Ok(moves) => Ok(moves),
+        Ok(mut moves) => {
+            run_moves(job.fields.rapids, &mut moves);
+            Ok(moves)
+        }
         Err(NgcFault::WantOfMemory) => Err(Stop::from(WantOfMemory)),
         Err(fault) => Err(Stop {
             fault: Fault::Program,

@@ -7,7 +7,7 @@ use Rattle.mill_base.specs.Numbers.{lesser}
 use Rattle.mill_base.specs.declared.motion.Move.{Move}
 use Rattle.mill_base.specs.declared.points.Tri.{Tri}
 use Rattle.mill_base.specs.declared.tool.Tool.{Tool}
-use Rattle.mill_sweep.specs.Reach.{low_end_of}
+use Rattle.mill_sweep.specs.Apart.{low_end_of}
 use Rattle.mill_gouge.specs.Gouges.{ToolPassesPart}
 use Rattle.mill_gouge.specs.Lifts.{low_of, lowest_tip_of, raised, IsLeastLift}
 use Rattle.mill_gouge.proofs.Leasts.{next_is_least, over_part_passes}

@@ -8,7 +8,7 @@ use Rattle.mill_base.specs.declared.motion.Move.{Move}
 use Rattle.mill_base.specs.declared.points.Tri.{Tri}
 use Rattle.mill_base.specs.declared.tool.Tool.{Tool}
 use Rattle.mill_sweep.proofs.Solids.{low_end_lifted}
-use Rattle.mill_sweep.specs.Reach.{low_end_of}
+use Rattle.mill_sweep.specs.Apart.{low_end_of}
 use Rattle.mill_gouge.specs.Gouges.{PassesPart, ToolPassesPart}
 use Rattle.mill_gouge.specs.Laws.{RaisingKeepsPass, OverPartPasses, PassesFromLift, PassingNeedsNoLift, OneLift}
 use Rattle.mill_gouge.specs.Lifts.{raised, IsLeastLift}

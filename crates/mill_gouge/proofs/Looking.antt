@@ -21,14 +21,14 @@ use Rattle.mill_cells.specs.Boxes.{Meet, IsNear, box_of, origin_box}
 use Rattle.mill_cells.specs.Sorted.{Sorted, sorted_of, top_at, IsNearOver}
 use Rattle.mill_cells.proofs.Lists.{nothing_in_nil, here, there, cons_cases}
 use Rattle.mill_cells.proofs.PassedLemmas.{top_is}
-use Rattle.mill_sweep.specs.Halving.{FailsAt, Passes, Blocks}
-use Rattle.mill_sweep.specs.Leaves.{span_of}
-use Rattle.mill_sweep.specs.Reach.{reach_box_of, low_end_of}
+use Rattle.mill_sweep.specs.Passing.{FailsAt, IsBlocked, Passes}
+use Rattle.mill_sweep.specs.Apart.{low_end_of}
+use Rattle.mill_sweep.specs.Reach.{reach_box_of}
 use Rattle.mill_sweep.specs.Sweeps.{Swept}
 use Rattle.mill_sweep.specs.declared.leaf.Leaf.{Leaf}
 use Rattle.mill_gouge.specs.declared.gouge.Gouge.{Gouge}
 use Rattle.mill_gouge.specs.Gouges.{PassesPart, IsFirstGouge}
-use Rattle.mill_sweep.proofs.Far.{top_passes}
+use Rattle.mill_sweep.proofs.ByKind.{low_passes_all}
 use Rattle.mill_sweep.proofs.Solids.{out_of_reach_passes}
 use Rattle.mill_gouge.specs.inner.Reaches.{PassesOutside}
 use Rattle.mill_gouge.specs.inner.Firsts.{ComesBefore, IsEarlier, IsGouge}
@@ -43,7 +43,7 @@ over_clears solid m part top under over t inside =
     let way = lifted solid m in
     let h = under (tri_at part t) (Contains-get_or part t _ inside) in
     let high = most (tri_at part t).a.z (tri_at part t).b.z (tri_at part t).c.z top (low_end_of way) h.0 h.1 h.2 over in
-    top_passes solid.cutter way (tri_at part t) (up _ _ _ high (ends way.from.z way.to.z).0) (up _ _ _ high (ends way.from.z way.to.z).1)
+    low_passes_all solid.cutter way (tri_at part t) (up _ _ _ high (ends way.from.z way.to.z).0) (up _ _ _ high (ends way.from.z way.to.z).1)
   where
     most : (a b c top low : ℤ) → a ≤ℤ top → b ≤ℤ top → c ≤ℤ top → top ≤ℤ low → greater a (greater b c) ≤ℤ low
     most a b c top low p q r s = grind (p, q, r, s, arith, ints)
@@ -65,7 +65,7 @@ is_over top low end stored_top stored_low p q r e = subst (λ (z : ℤ). z ≤�
 pub record IsFound (cutter : Cutter) (m : Move) (part : List Tri) (gouge : Gouge) : Type 0 where
   pub tri : gouge.tri < length part
   pub fails : FailsAt cutter m (tri_at part gouge.tri) gouge.leaf
-  pub blocked : Blocks cutter (span_of m gouge.leaf.d gouge.leaf.k) (tri_at part gouge.tri)
+  pub blocked : IsBlocked cutter m (tri_at part gouge.tri) gouge.leaf
 
 -- the numbers left are those of triangles; the first gouge so far is one, and each triangle before it is passed or left
 pub record IsLooking (cutter : Cutter) (m : Move) (part : List Tri) (left : List ℕ) (first : Option Gouge) : Type 0 where

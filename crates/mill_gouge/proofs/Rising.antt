@@ -10,12 +10,15 @@ use Rattle.mill_base.specs.Points.{highest, minus, times, point_at}
 use Rattle.mill_base.specs.Sizes.{outer, shift}
 use Rattle.mill_base.specs.Solids.{Solid, higher}
 use Rattle.mill_base.specs.declared.cutter.Cutter.{Cutter}
+use Rattle.mill_base.specs.declared.motion.Kind.{Kind}
+use Rattle.mill_base.specs.declared.motion.Kind.TheVariants.{Rapid, Feed, Dogleg}
 use Rattle.mill_base.specs.declared.motion.Move.{Move}
 use Rattle.mill_base.specs.declared.points.Tri.{Tri}
 use Rattle.mill_base.specs.declared.tool.Tool.{Tool}
 use Rattle.mill_sweep.proofs.Lower.{inside_rises}
-use Rattle.mill_sweep.specs.Halving.{Blocks, IsFree, LeafPasses, Passes}
+use Rattle.mill_sweep.specs.Halving.{Blocks, HalvingPasses, IsFree, LeafPasses}
 use Rattle.mill_sweep.specs.Leaves.{depth_of, end_of, length_x, length_y, lower_of}
+use Rattle.mill_sweep.specs.Passing.{BoxPasses, Passes, PassesBy}
 use Rattle.mill_gouge.specs.Gouges.{PassesPart, ToolPassesPart}
 use Rattle.mill_gouge.proofs.RisingCerts.{end_rises, quotient_rises, lower_tip}
 
@@ -91,9 +94,25 @@ module _ (m : Move) (f t g u h : ℤ) (least : (pos 0) ≤ℤ h) (from_is : g �
   leaf_rises cutter tri (suc more) d k (inl free) = inl (free_rises cutter tri d k free)
   leaf_rises cutter tri (suc more) d k (inr both) = inr (leaf_rises cutter tri more (d + 1) (2 * k) both.0, leaf_rises cutter tri more (d + 1) (2 * k + 1) both.1)
 
-  pub passes_rises : (cutter : Cutter) (tri : Tri) → Passes cutter (at_heights m f t) tri → Passes cutter (at_heights m g u) tri
-  passes_rises cutter tri passes =
+  halving_rises : (cutter : Cutter) (tri : Tri) → HalvingPasses cutter (at_heights m f t) tri → HalvingPasses cutter (at_heights m g u) tri
+  halving_rises cutter tri passes =
       subst (λ (n : ℕ). LeafPasses cutter (at_heights m g u) tri n 0 0) (sym as_deep) (leaf_rises cutter tri (depth_of (at_heights m f t)) 0 0 passes)
+
+  -- a dogleg's box is as wide, and no lower
+  box_rises : (cutter : Cutter) (tri : Tri) → BoxPasses cutter (at_heights m f t) tri → BoxPasses cutter (at_heights m g u) tri
+  box_rises cutter tri (inl low) = inl (up _ _ _ low (lesser_rises f t g u (no_less f g from_is) (no_less t u to_is)))
+    where
+      no_less : (a b : ℤ) → b ≡ a +ℤ h → a ≤ℤ b
+      no_less a b e = omega (e, least, arith, ints)
+  box_rises cutter tri (inr beside) = inr beside
+
+  pub passes_rises : (cutter : Cutter) (tri : Tri) → Passes cutter (at_heights m f t) tri → Passes cutter (at_heights m g u) tri
+  passes_rises cutter tri = by m.kind
+    where
+      by : (kind : Kind) → PassesBy kind cutter (at_heights m f t) tri → PassesBy kind cutter (at_heights m g u) tri
+      by Rapid passes = halving_rises cutter tri passes
+      by Feed passes = halving_rises cutter tri passes
+      by Dogleg passes = box_rises cutter tri passes
 
 -- the same of a solid, which is higher by its lift on both moves, and of a tool
 module _ (m : Move) (f t g u h : ℤ) (least : (pos 0) ≤ℤ h) (from_is : g ≡ f +ℤ h) (to_is : u ≡ t +ℤ h) (part : List Tri) where

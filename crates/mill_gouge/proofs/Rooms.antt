@@ -13,7 +13,7 @@ use Rattle.mill_base.specs.declared.points.Tri.{Tri}
 use Rattle.mill_base.specs.declared.tool.Tool.{Tool}
 use Rattle.mill_part.specs.Tops.{IsTop}
 use Rattle.mill_sweep.specs.Leaves.{length_z}
-use Rattle.mill_sweep.specs.Reach.{low_end_of}
+use Rattle.mill_sweep.specs.Apart.{low_end_of}
 use Rattle.mill_sweep.specs.Widths.{longest}
 use Rattle.mill_gouge.specs.Laws.{HundredthsHaveRoom}
 use Rattle.mill_gouge.specs.Lifts.{HasRoom, ceiling_of, low_of, lowest_tip_of, place_over, raised}

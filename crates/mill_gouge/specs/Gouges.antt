@@ -8,7 +8,7 @@ use Rattle.mill_base.specs.Solids.{Solid}
 use Rattle.mill_sweep.specs.Solids.{SolidFailsAt, SolidIsBlocked, SolidPasses}
 use Rattle.mill_gouge.specs.declared.gouge.Gouge.{Gouge}
 
--- the solid passes each triangle of the part on the move, by halving
+-- the solid passes each triangle of the part on the move
 abbrev pub PassesPart : Solid → Move → List Tri → Type 0
 PassesPart solid m part = (t : ℕ) → t < length part → SolidPasses solid m (tri_at part t)
 

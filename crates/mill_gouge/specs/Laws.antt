@@ -1,11 +1,12 @@
 -- What it does to raise a move.
 use Rattle.std.specs.Prelude.{◌≡◌, ◌↔◌, ℕ, ◌≤◌, ℤ, ◌≤ℤ◌, List, IfSome}
 use Rattle.mill_base.specs.Covers.{IsUnder}
-use Rattle.mill_base.specs.Motion.{IsMoment, tip_at}
+use Rattle.mill_base.specs.Motion.{IsTipOf}
 use Rattle.mill_base.specs.Ranges.{MoveInRange, MoveInUnitRange, TrisInUnitRange}
 use Rattle.mill_base.specs.Solids.{IsSolid}
 use Rattle.mill_base.specs.Tools.{ToolGouges}
 use Rattle.mill_base.specs.declared.motion.Move.{Move}
+use Rattle.mill_base.specs.declared.points.Pt3.{Pt3}
 use Rattle.mill_base.specs.declared.points.Tri.{Tri}
 use Rattle.mill_base.specs.declared.tool.Tool.{Tool}
 use Rattle.mill_base.specs.declared.unit.Unit.TheVariants.{Hundredth}
@@ -28,10 +29,10 @@ PassesFromLift = (tool : Tool) (part : List Tri) (m : Move) (n k : ℕ) → IsLe
 abbrev pub PassingNeedsNoLift : Type 0
 PassingNeedsNoLift = (tool : Tool) (part : List Tri) (m : Move) → ToolPassesPart tool m part ↔ IsLeastLift tool part m 0
 
--- a move that is raised by the least lift or by more, where it is in range, has no part point strictly inside its cutter, or its holder, at any moment
+-- a move that is raised by the least lift or by more, where it is in range, has no part point strictly inside its cutter, or its holder, wherever its tip may be
 abbrev pub LiftedIsClear : Type 0
-LiftedIsClear = (tool : Tool) (part : List Tri) (m : Move) (n k : ℕ) (a d : ℤ) → IsSolid tool.cutter → IfSome tool.holder IsSolid → MoveInRange (raised k m)
-    → IsLeastLift tool part m n → n ≤ k → IsMoment a d → ¬ ToolGouges tool d (tip_at (raised k m) a d) part
+LiftedIsClear = (tool : Tool) (part : List Tri) (m : Move) (n k : ℕ) (d : ℤ) (tip : Pt3) → IsSolid tool.cutter → IfSome tool.holder IsSolid → MoveInRange (raised k m)
+    → IsLeastLift tool part m n → n ≤ k → IsTipOf (raised k m) d tip → ¬ ToolGouges tool d tip part
 
 -- a move has at most one least lift
 abbrev pub OneLift : Type 0

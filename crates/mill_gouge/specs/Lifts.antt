@@ -10,7 +10,7 @@ use Rattle.mill_base.specs.declared.points.Pt3.{Pt3}
 use Rattle.mill_base.specs.declared.points.Tri.{Tri}
 use Rattle.mill_base.specs.declared.tool.Tool.{Tool}
 use Rattle.mill_sweep.specs.Leaves.{length_z}
-use Rattle.mill_sweep.specs.Reach.{low_end_of}
+use Rattle.mill_sweep.specs.Apart.{low_end_of}
 use Rattle.mill_gouge.specs.Gouges.{ToolPassesPart}
 
 -- the place n higher

@@ -1,7 +1,7 @@
 ghost use Rattle.std.specs.Prelude.{◌≡◌, ◌↔◌, IsTrue, false};
 ghost use Rattle.mill_base.specs.Ranges.{MoveInRange, TriInRange};
 ghost use Rattle.mill_base.specs.Solids.{at_tip};
-ghost use Rattle.mill_sweep.specs.Halving.{Passes};
+ghost use Rattle.mill_sweep.specs.Passing.{Passes};
 ghost use Rattle.mill_gouge.specs.inner.Reaches.{PassesOutside};
 ghost use Rattle.mill_gouge.specs.Gouges.{PassesPart, ToolPassesPart};
 

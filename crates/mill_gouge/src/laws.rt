@@ -23,7 +23,7 @@ pub fn passes_from_lift()
 {}
 
 /// A law: a move that is raised by its least lift or by more has no part point strictly inside its
-/// cutter, or its holder, at any moment.
+/// cutter, or its holder, wherever its tip may be.
 ///
 /// It has no code, as [`raising_keeps_pass`].
 pub fn lifted_is_clear()

@@ -2,7 +2,7 @@ ghost use Rattle.std.specs.Prelude.{◌≡◌, ◌⊎◌, ◌↔◌, ◌≤ℤ�
 ghost use Rattle.mill_base.specs.Covers.{IsUnder};
 ghost use Rattle.mill_base.specs.Ranges.{MoveInRange};
 ghost use Rattle.mill_sweep.specs.Leaves.{length_z};
-ghost use Rattle.mill_sweep.specs.Reach.{low_end_of};
+ghost use Rattle.mill_sweep.specs.Apart.{low_end_of};
 ghost use Rattle.mill_sweep.specs.Widths.{longest};
 ghost use Rattle.mill_gouge.specs.Lifts.{HasRoom, ceiling_of, lowest_tip_of, raised};
 

@@ -14,7 +14,7 @@ use Rattle.mill_decimal.specs.declared.snap.Snap.TheVariants.{Nearest, Exact}
 use Rattle.mill_job.specs.Columns.{row_count, column_count}
 use Rattle.mill_job.specs.Cutters.{cutter_faults, cutter_of, shape_fault, slope_fault}
 use Rattle.mill_job.specs.Fixtures.{fixtures_at, fixtures_fault, is_under}
-use Rattle.mill_job.specs.Habits.{flag_at, flag_fault, start_of, start_texts}
+use Rattle.mill_job.specs.Habits.{flag_at, flag_fault, rapids_of, rapids_texts, start_of, start_texts}
 use Rattle.mill_job.specs.Holders.{holder_fault, holder_of, is_narrow}
 use Rattle.mill_job.specs.Slack.{graze_of, is_holder_close, is_low, is_shallow, is_tight}
 use Rattle.mill_job.specs.Keys.{name_of, every_key, unknown_but}
@@ -69,6 +69,7 @@ key_faults_in unit ms =
     ∷ number_fault_if_there key.Overcut (pos 0) MAX_OVERCUT ms
     ∷ number_fault_if_there key.Graze (pos 0) MAX_GRAZE ms
     ∷ fixtures_fault unit ms
+    ∷ text_fault_if_there key.Rapids rapids_texts ms
     ∷ text_fault_if_there key.Start start_texts ms
     ∷ flag_fault key.Spindle ms
     ∷ []
@@ -121,6 +122,7 @@ job_with unit ms = record {
   overcut = number_or key.Overcut (pos 0) ms;
   graze = number_given key.Graze ms;
   keep_out = fixtures_at ms;
+  rapids = rapids_of ms;
   start = start_of ms;
   spindle = flag_at key.Spindle ms;
 }

@@ -1,13 +1,45 @@
 -- What a document says of a machine's habits, and what is wrong with it.
-use Rattle.std.specs.Prelude.{ℕ, codes, bytes_eq, Bool, true, false, if◌then◌else◌, List, [], ◌∷◌, Option, Some, None, option_and_then, unwrap_or}
+use Rattle.std.specs.Prelude.{ℕ, codes, bytes_eq, Bool, true, false, if◌then◌else◌, List, [], ◌∷◌, map, Option, Some, None, option_and_then, unwrap_or}
 use Rattle.toml.specs.Data.{Members, get_member, as_bool, as_str}
+use Rattle.mill_base.specs.Motion.{bent, bent_kind, changes_two}
+use Rattle.mill_base.specs.declared.motion.Kind.{Kind}
+use Rattle.mill_base.specs.declared.motion.Move.{Move}
 use Rattle.mill_job.specs.Keys.{name_of}
 use Rattle.mill_job.specs.Tables.{may_be}
 use Rattle.mill_job.specs.declared.fault.JobFault.{JobFault}
+use Rattle.mill_job.specs.declared.habits.Rapids.{Rapids}
+use Rattle.mill_job.specs.declared.habits.Rapids.TheVariants.{Straight, Axes}
 use Rattle.mill_job.specs.declared.habits.Start.{Start}
 use Rattle.mill_job.specs.declared.habits.Start.TheVariants as start
 use Rattle.mill_job.specs.declared.key.Key.{Key}
 use Rattle.mill_job.specs.declared.key.Key.TheVariants as key
+
+-- the texts of the ways in which a machine moves its rapids
+abbrev pub rapids_texts : List (List ℕ)
+rapids_texts = codes "straight" ∷ codes "axes" ∷ []
+
+-- the text `axes` means each axis for itself, and any other, or none, straight
+abbrev pub rapids_from : Option (List ℕ) → Rapids
+rapids_from None = Straight
+rapids_from (Some text) = if bytes_eq text (codes "axes") then Axes else Straight
+
+-- how a document's machine moves its rapids
+unfoldable pub rapids_of : Members → Rapids
+rapids_of ms = rapids_from (option_and_then as_str (get_member (name_of key.Rapids) ms))
+
+-- the kind of a move that is or isn't along two axes or more, as a machine with such rapids makes it
+abbrev pub kind_by : Rapids → Kind → Bool → Kind
+kind_by Straight kind two = kind
+kind_by Axes kind two = bent_kind kind two
+
+-- the move as such a machine makes it
+abbrev pub made_by : Rapids → Move → Move
+made_by rapids m = record { kind = kind_by rapids m.kind (changes_two m); from = m.from; to = m.to }
+
+-- the moves as such a machine makes them
+abbrev pub run_by : Rapids → List Move → List Move
+run_by Straight moves = moves
+run_by Axes moves = map bent moves
 
 -- the texts of the places from which a program starts
 abbrev pub start_texts : List (List ℕ)

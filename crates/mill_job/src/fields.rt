@@ -1,5 +1,5 @@
 use crate::fixtures::Fixtures;
-use crate::habits::Start;
+use crate::habits::{Rapids, Start};
 use crate::levels::Levels;
 use mill_base::{Box2, Cutter, Solid, Unit};
 use mill_decimal::Snap;
@@ -72,6 +72,8 @@ pub struct JobFields {
     /// each from below up to its height. The cutter passes over all of them at the clear height,
     /// with the slack around it.
     pub keep_out: Fixtures,
+    /// How the machine moves its rapids.
+    pub rapids: Rapids,
     /// From where a program starts.
     pub start: Start,
     /// Whether a program has to start the spindle, and to say how fast it feeds, before it feeds.

@@ -10,13 +10,15 @@ use crate::arrays::{area, home, levels};
 use crate::fault::JobFault;
 use crate::fields::Place;
 use crate::fixtures::Fixtures;
-use crate::habits::Start;
+use crate::habits::{Rapids, Start};
 use crate::holder::holder;
 use crate::keep_out::keep_out;
 use crate::key::Key;
 use crate::levels::Levels;
 use crate::limits::{MAX_DISTANCE, MAX_GRAZE, MAX_OVERCUT, MAX_SLACK};
-use crate::values::{coordinate, depth, flag, number, number_if_there, number_or, snap, start};
+use crate::values::{
+    coordinate, depth, flag, number, number_if_there, number_or, rapids, snap, start,
+};
 use mill_base::{Box2, Solid, Unit};
 use mill_decimal::Snap;
 use toml::Table;
@@ -62,6 +64,7 @@ pub struct Extras {
     pub overcut: i32,
     pub graze: Option<i32>,
     pub keep_out: Fixtures,
+    pub rapids: Rapids,
     pub start: Start,
     pub spindle: bool,
 }
@@ -129,6 +132,7 @@ pub fn extras_in(table: &Table, unit: Unit) -> Result<Extras, JobFault>
         overcut: number_or(table, Key::Overcut, 0, MAX_OVERCUT, 0)?,
         graze: number_if_there(table, Key::Graze, 0, MAX_GRAZE)?,
         keep_out: keep_out(table, unit)?,
+        rapids: rapids(table)?,
         start: start(table)?,
         spindle: flag(table, Key::Spindle)?,
     })

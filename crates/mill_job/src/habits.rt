@@ -1,5 +1,28 @@
 ghost use Rattle.std.specs.Prelude.{◌≡◌};
-ghost use Rattle.mill_job.specs.Habits.{is_elsewhere};
+ghost use Rattle.mill_job.specs.Habits.{is_elsewhere, made_by};
+
+use mill_base::Move;
+
+/// How a machine moves its rapids.
+#[derive(Clone, Copy, Debug, PartialEq, Eq)]
+pub enum Rapids {
+    /// Straight, as its feeds.
+    Straight,
+    /// Each axis at a speed of its own: the tip may be anywhere in the box of a rapid's two ends.
+    Axes,
+}
+
+impl Rapids {
+    /// The move as a machine with such rapids makes it.
+    pub fn made(self, step: Move) -> Move
+        ensures { result ≡ made_by self step }
+    {
+        match self {
+            Rapids::Straight => step,
+            Rapids::Axes => step.bent(),
+        }
+    }
+}
 
 /// From where a program starts.
 #[derive(Clone, Copy, Debug, PartialEq, Eq)]

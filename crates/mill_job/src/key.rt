@@ -35,6 +35,7 @@ pub enum Key {
     Overcut,
     Graze,
     KeepOut,
+    Rapids,
     Start,
     Spindle,
     /// The key of a list.
@@ -47,7 +48,7 @@ pub enum Key {
 }
 
 /// The keys of a job's document, in the format's order.
-pub const JOB_KEYS: [Key; 31] = [
+pub const JOB_KEYS: [Key; 32] = [
     Key::Unit,
     Key::Cutter,
     Key::Radius,
@@ -77,6 +78,7 @@ pub const JOB_KEYS: [Key; 31] = [
     Key::Overcut,
     Key::Graze,
     Key::KeepOut,
+    Key::Rapids,
     Key::Start,
     Key::Spindle,
 ];
@@ -116,6 +118,7 @@ impl Key {
             Key::Overcut => "overcut",
             Key::Graze => "graze",
             Key::KeepOut => "keep_out",
+            Key::Rapids => "rapids",
             Key::Start => "start",
             Key::Spindle => "spindle",
             Key::Steps => "steps",

@@ -63,6 +63,7 @@ fn assembled(
         overcut: extras.overcut,
         graze: extras.graze,
         keep_out: extras.keep_out,
+        rapids: extras.rapids,
         start: extras.start,
         spindle: extras.spindle,
     }
@@ -108,8 +109,8 @@ fn read_fields(alloc: Global, text: &[u8]) -> Result<JobFields, JobFault>
 
 /// Reads a job: a TOML 1.0 document with each key of [`Key`] and no other; `unit`, `snap`, `lift`,
 /// `raster`, `rough_raster`, `layer`, `rough_stock`, `levels`, `max_cut`, `path_tol`, `slack`,
-/// `overcut`, `graze`, `keep_out`, `start` and `spindle` may be left out, `rise` and `run` where
-/// the cutter is no cone, and `holder_radius` and `stickout` both or neither.
+/// `overcut`, `graze`, `keep_out`, `rapids`, `start` and `spindle` may be left out, `rise` and
+/// `run` where the cutter is no cone, and `holder_radius` and `stickout` both or neither.
 ///
 /// `unit` is a text, `hundredth` for 0.01 mm or `thousandth` for 0.001 mm; numbers are whole, in
 /// that unit. `cutter` is a text, `flat`, `ball` or `cone`. `radius`, `pitch`, `sample`, `raster`,
@@ -121,13 +122,14 @@ fn read_fields(alloc: Global, text: &[u8]) -> Result<JobFields, JobFault>
 /// has x0, y0, x1, y1, with x0 at most x1 and y0 at most y1; `home` has x, y; `levels` has at most
 /// 64 members, each less than the one before it. `snap` is a text, `nearest` or `exact`. `keep_out`
 /// has at most 64 members, each an array of five coordinates x0, y0, x1, y1, z, with x0 at most x1
-/// and y0 at most y1. `start` is a text, `home`, `anywhere` or `change`, and `spindle` a truth
-/// value.
+/// and y0 at most y1. `rapids` is a text, `straight` or `axes`, and `start` one, `home`, `anywhere`
+/// or `change`. `spindle` is a truth value.
 ///
 /// In a document without them `unit` is `hundredth`, `lift`, `layer`, `rough_stock`, `max_cut`,
 /// `slack` and `overcut` are 0, `raster` is the pitch, `rough_raster` the raster, `levels` and
 /// `keep_out` have no member, `snap` is `nearest`, there is no holder and no tolerance of paths,
-/// `graze` is as [`Job::graze`] says, `start` is `home`, and `spindle` is false.
+/// `graze` is as [`Job::graze`] says, `rapids` is `straight`, `start` is `home`, and `spindle` is
+/// false.
 ///
 /// The relations are: only a cone has a rise, only a cone has a run, rise is at most 16 times run,
 /// floor at most top, top at most clear, there are at most 4,000,000 columns, band is at most

@@ -4,14 +4,14 @@ ghost use Rattle.mill_base.specs.Units.{greatest_of};
 ghost use Rattle.toml.specs.Data.{as_integer, get_member};
 ghost use Rattle.toml.specs.View.{table_view, view};
 ghost use Rattle.mill_job.specs.Documents.{snap_of, unit_of, unit_texts};
-ghost use Rattle.mill_job.specs.Habits.{flag_at, flag_fault};
+ghost use Rattle.mill_job.specs.Habits.{flag_at, flag_fault, rapids_of, rapids_texts};
 ghost use Rattle.mill_job.specs.Habits.{start_of, start_texts};
 ghost use Rattle.mill_job.specs.Jobs.{IsFrom};
 ghost use Rattle.mill_job.specs.Keys.{name_of};
 ghost use Rattle.mill_job.specs.Tables.{coordinate_fault, is_coordinate, is_from, kind_fault, number_at, number_fault, number_fault_if_there, number_given, number_or as number_or_other, text_fault_if_there};
 
 use crate::fault::JobFault;
-use crate::habits::Start;
+use crate::habits::{Rapids, Start};
 use crate::key::Key;
 use mill_base::Unit;
 use mill_decimal::Snap;
@@ -144,8 +144,13 @@ pub fn unit(table: &Table) -> Result<Unit, JobFault>
 /// How the document takes what is finer than a unit.
 #[tactic(auto, unfolding(crate::specs::Tables::text_fault_if_there, crate::specs::Documents::snap_of))]
 pub fn snap(table: &Table) -> Result<Snap, JobFault>
-    ensures ok { IfOk result (λ snap. (text_fault_if_there Key.Snap (codes "nearest" ∷ codes "exact" ∷ []) (table_view table.now) ≡ None) × (snap ≡ snap_of (table_view table.now))) }
-    ensures err { IfErr result (λ fault. text_fault_if_there Key.Snap (codes "nearest" ∷ codes "exact" ∷ []) (table_view table.now) ≡ Some fault) }
+    ensures ok { IfOk result (λ snap.
+        (text_fault_if_there Key.Snap (codes "nearest" ∷ codes "exact" ∷ []) (table_view table.now)
+        ≡ None)
+        × (snap ≡ snap_of (table_view table.now))) }
+    ensures err { IfErr result (λ fault.
+        text_fault_if_there Key.Snap (codes "nearest" ∷ codes "exact" ∷ []) (table_view table.now)
+        ≡ Some fault) }
 {
     let Some(value) = find(table, Key::Snap) else {
         return Ok(Snap::Nearest);
@@ -155,6 +160,26 @@ pub fn snap(table: &Table) -> Result<Snap, JobFault>
         Some("nearest") => Ok(Snap::Nearest),
         Some("exact") => Ok(Snap::Exact),
         Some(_) => Err(JobFault::Range(Key::Snap)),
+    }
+}
+
+/// How the document's machine moves its rapids.
+#[tactic(auto, unfolding(crate::specs::Tables::text_fault_if_there, crate::specs::Habits::rapids_of))]
+pub fn rapids(table: &Table) -> Result<Rapids, JobFault>
+    ensures ok { IfOk result (λ rapids.
+        (text_fault_if_there Key.Rapids rapids_texts (table_view table.now) ≡ None)
+        × (rapids ≡ rapids_of (table_view table.now))) }
+    ensures err { IfErr result (λ fault.
+        text_fault_if_there Key.Rapids rapids_texts (table_view table.now) ≡ Some fault) }
+{
+    let Some(value) = find(table, Key::Rapids) else {
+        return Ok(Rapids::Straight);
+    };
+    match value.as_str() {
+        None => Err(JobFault::WrongKind(Key::Rapids)),
+        Some("straight") => Ok(Rapids::Straight),
+        Some("axes") => Ok(Rapids::Axes),
+        Some(_) => Err(JobFault::Range(Key::Rapids)),
     }
 }
 

@@ -1,5 +1,5 @@
 -- The moves of links, tours and the way home are safe, and lead on from each other.
-use Rattle.std.specs.Prelude.{◌≡◌, ◌⊎◌, ℕ, zero, suc, Bool, true, false, ◌&&◌, if◌then◌else◌, ℤ, pos, ◌+ℤ◌, ◌-ℤ◌, ◌<ℤ◌, ◌≤ℤ◌, int_lt, List, [], ◌∷◌, ◌++◌, All}
+use Rattle.std.specs.Prelude.{◌≡◌, ◌≢◌, ◌⊎◌, ℕ, zero, suc, Bool, true, false, ◌&&◌, if◌then◌else◌, ℤ, pos, ◌+ℤ◌, ◌-ℤ◌, ◌<ℤ◌, ◌≤ℤ◌, int_lt, List, [], ◌∷◌, ◌++◌, All}
 use Rattle.std.specs.Ordering.{int_eq}
 use Rattle.std.specs.List.{flat_map}
 use Rattle.std.proofs.Common.{inl, inr, refl, sym, subst, ap, arith}
@@ -14,7 +14,8 @@ use Rattle.mill_base.specs.Solids.{Solid, higher, lifted}
 use Rattle.mill_base.specs.declared.points.Pt3.{Pt3}
 use Rattle.mill_base.specs.declared.points.Tri.{Tri}
 use Rattle.mill_base.specs.declared.motion.Move.{Move}
-use Rattle.mill_base.specs.declared.motion.Kind.TheVariants.{Rapid, Feed}
+use Rattle.mill_base.specs.declared.motion.Kind.TheVariants.{Rapid, Feed, Dogleg}
+use Rattle.mill_base.specs.Motion.{IsStraight}
 use Rattle.mill_dexel.specs.Tops.{cut_limit, top_after}
 use Rattle.mill_dexel.proofs.TopLaws.{top_after_stays}
 use Rattle.mill_dexel.proofs.Cleared.{passes_after_cut}
@@ -22,21 +23,23 @@ use Rattle.mill_dexel.proofs.Limits.{passes_limit_after_cut}
 use Rattle.mill_gouge.specs.Gouges.{ToolPassesPart}
 use Rattle.mill_gouge.proofs.Leasts.{over_part_passes}
 use Rattle.mill_job.specs.Columns.{column_x, column_y, home}
-use Rattle.mill_job.specs.Habits.{is_elsewhere}
+use Rattle.mill_job.specs.Habits.{is_elsewhere, made_by}
 use Rattle.mill_job.specs.Jobs.{IsJob, tool_of}
 use Rattle.mill_job.specs.Solids.{stock_solid_of}
 use Rattle.mill_job.specs.declared.fields.JobFields.{JobFields}
 use Rattle.mill_job.proofs.SolidFacts.{stock_lift}
 use Rattle.mill_margin.specs.Margins.{offset_of}
-use Rattle.mill_sweep.specs.Reach.{low_end_of}
+use Rattle.mill_ngc.specs.Writing.{as_written}
+use Rattle.mill_sweep.specs.Apart.{low_end_of}
 use Rattle.mill_sweep.specs.Solids.{SolidPassesPoint}
 use Rattle.mill_sweep.specs.Vertical.{StaysOver}
-use Rattle.mill_sweep.proofs.Far.{top_passes}
-use Rattle.mill_links.specs.Links.{at_height, feed_to, rapid_to, stay, head, is_over_place, climb, cross, descend, over_stock, peck_count, pecks, plunge, detour, MayFeed, IsLink, way_home}
+use Rattle.mill_sweep.proofs.ByKind.{low_passes_all}
+use Rattle.mill_links.specs.Links.{across, at_height, feed_to, rapid_to, stay, head, is_over_place, climb, cross, descend, over_stock, peck_count, pecks, plunge, detour, MayFeed, IsLink, way_home}
 use Rattle.mill_links.specs.Tours.{AreLinks, last_place}
 use Rattle.mill_links.specs.Safety.{IsSafeMove, AreSafe, Connect, IsFreePlace, IsEndOf, IsReached, GoSafely, LiesUnderClear, HeadIsSafe, LinkIsSafe, TourIsSafe, WayHomeIsSafe}
 use Rattle.mill_links.specs.declared.visit.Visit.{Visit}
 use Rattle.mill_links.proofs.Kept.{between}
+use Rattle.mill_links.proofs.Made.{feed_made, made_no_feed, rapid_is_no_feed, rapid_made, upright_made}
 use Rattle.mill_links.proofs.Overs.{clear_most, lifted_over, over_ok, over_part, top_least}
 use Rattle.mill_links.proofs.Pecks.{Fit, pecks_connect, pecks_end, pecks_fit}
 use Rattle.mill_links.proofs.Points.{same_pair}
@@ -51,11 +54,11 @@ at_most_itself a = omega (arith, ints)
 all_low : (a b c h : ℤ) → a ≤ℤ h → b ≤ℤ h → c ≤ℤ h → greater a (greater b c) ≤ℤ h
 all_low a b c h p q r = grind (p, q, r, arith, ints)
 
-feed_is_no_rapid : Feed ≡ Rapid → ⊥
-feed_is_no_rapid e = cc
+rapid_is_straight : Rapid ≡ Dogleg → ⊥
+rapid_is_straight e = cc
 
-rapid_is_no_feed : Rapid ≡ Feed → ⊥
-rapid_is_no_feed e = cc
+feed_is_straight : Feed ≡ Dogleg → ⊥
+feed_is_straight e = cc
 
 lowered : (z depth : ℤ) → (pos 0) ≤ℤ depth → (z -ℤ depth) ≤ℤ z
 lowered z depth least = omega (least, arith, ints)
@@ -117,41 +120,36 @@ module _ (job : JobFields) (part : List Tri) (ok : IsJob job) (under : LiesUnder
   stock_over : (a z : ℤ) → a ≤ℤ z → a ≤ℤ higher (pos 1) z solid.lift
   stock_over a z over = lifted_over a z solid.lift over (stock_lift job ok)
 
-  -- a rapid over the stock
-  over_safe : (done : List Move) (start end : Pt3) → MoveInUnitRange job.unit (rapid_to start end) → over_stock job ≤ℤ start.z → over_stock job ≤ℤ end.z
-      → ToolPassesPart (tool_of job) (rapid_to start end) part → IsSafeMove job part done (rapid_to start end)
-  over_safe done start end ranged from to passes = record {
+  -- what is no feed, over the stock
+  over_safe : (done : List Move) (m : Move) → made_by job.rapids (as_written m) ≡ m → m.kind ≢ Feed → MoveInUnitRange job.unit m → over_stock job ≤ℤ m.from.z → over_stock job ≤ℤ m.to.z
+      → ToolPassesPart (tool_of job) m part → IsSafeMove job part done m
+  over_safe done m made no_feed ranged from to passes = record {
     ranged = ranged;
+    made = made;
     floor_from = through _ _ _ floor_least from;
     floor_to = through _ _ _ floor_least to;
     passes = passes;
-    stock = λ rapid x y. let h = low_column x y in
-        top_passes solid.cutter (lifted solid m) (point_tri (point_at x y (top_after job x y done))) (stock_over _ start.z (through _ _ _ h from)) (stock_over _ end.z (through _ _ _ h to));
-    depth = λ feed. absurd (rapid_is_no_feed feed);
+    stock = λ other x y. let h = low_column x y in
+        low_passes_all solid.cutter (lifted solid m) (point_tri (point_at x y (top_after job x y done))) (stock_over _ m.from.z (through _ _ _ h from)) (stock_over _ m.to.z (through _ _ _ h to));
+    depth = λ feed. absurd (no_feed feed);
   }
     where
-      m : Move
-      m = rapid_to start end
-
       low_column : (x y : ℤ) → highest (point_tri (point_at x y (top_after job x y done))) ≤ℤ over_stock job
       low_column x y = let h = column_low done x y in all_low _ _ _ (over_stock job) h h h
 
-  -- a rapid at the clear height, or over it
-  across_safe : (done : List Move) (start end : Pt3) → MoveInUnitRange job.unit (rapid_to start end) → job.clear ≤ℤ start.z → job.clear ≤ℤ end.z
-      → IsSafeMove job part done (rapid_to start end)
-  across_safe done start end ranged from to =
-      over_safe done start end ranged (through _ _ _ (clear_most job ok) from) (through _ _ _ (clear_most job ok) to)
-      (over_part_passes (tool_of job) part m (job.clear -ℤ offset_of job.cutter job.slack) under (over_part job ok (low_end_of m) (both_over job.clear start.z end.z from to)))
+  -- and at the clear height, or over it
+  across_safe : (done : List Move) (m : Move) → made_by job.rapids (as_written m) ≡ m → m.kind ≢ Feed → MoveInUnitRange job.unit m → job.clear ≤ℤ m.from.z → job.clear ≤ℤ m.to.z
+      → IsSafeMove job part done m
+  across_safe done m made no_feed ranged from to =
+      over_safe done m made no_feed ranged (through _ _ _ (clear_most job ok) from) (through _ _ _ (clear_most job ok) to)
+      (over_part_passes (tool_of job) part m (job.clear -ℤ offset_of job.cutter job.slack) under (over_part job ok (low_end_of m) (both_over job.clear m.from.z m.to.z from to)))
     where
-      m : Move
-      m = rapid_to start end
-
       both_over : (low a b : ℤ) → low ≤ℤ a → low ≤ℤ b → low ≤ℤ lesser a b
       both_over low a b p q = grind (p, q, arith, ints)
 
   -- the tool doesn't gouge at a free place, so it passes the part on a move straight over it
-  passes_free : (m : Move) (p : Pt3) → IsFreePlace job part p → StaysOver p m → ToolPassesPart (tool_of job) m part
-  passes_free m p at over = passes_over m part p over (tool_of job) at.free
+  passes_free : (m : Move) (p : Pt3) → IsFreePlace job part p → IsStraight m → StaysOver p m → ToolPassesPart (tool_of job) m part
+  passes_free m p at straight over = passes_over m part p straight over (tool_of job) at.free
 
   raised_range : (p : Pt3) (z : ℤ) → IsInUnitRange job.unit p → Within (greatest_of job.unit) z → IsInUnitRange job.unit (at_height p z)
   raised_range p z ranged high = record { x_ok = ranged.x_ok; y_ok = ranged.y_ok; z_ok = high }
@@ -178,11 +176,12 @@ module _ (job : JobFields) (part : List Tri) (ok : IsJob job) (under : LiesUnder
   climb_safe : (done : List Move) (from : Pt3) → IsFreePlace job part from → IsEndOf done from → IsSafeMove job part done (rapid_to from (at_height from job.clear))
   climb_safe done from at end = record {
     ranged = record { from_ok = at.ranged; to_ok = raised_range from job.clear at.ranged ok.clear_ok };
+    made = upright_made job.rapids from from.z job.clear;
     floor_from = at.floor;
     floor_to = through _ _ _ ok.stock ok.over_stock;
-    passes = passes_free up from at stays;
+    passes = passes_free up from at rapid_is_straight stays;
     stock = λ rapid x y. passes_after_cut job done end.move up x y ok end.member
-        (subst (λ p. job.floor ≤ℤ p.z) (sym end.here) at.floor) (subst (λ p. StaysOver p up) (sym end.here) stays);
+        (subst (λ p. job.floor ≤ℤ p.z) (sym end.here) at.floor) rapid_is_straight (subst (λ p. StaysOver p up) (sym end.here) stays);
     depth = λ feed. absurd (rapid_is_no_feed feed);
   }
     where
@@ -229,14 +228,20 @@ module _ (job : JobFields) (part : List Tri) (ok : IsJob job) (under : LiesUnder
           equal : (x y u v : ℤ) → (int_eq x u && int_eq y v) ≡ true → point_at u v job.clear ≡ point_at x y job.clear
           equal x y u v e = let h = same_pair x y u v e in rw (h.0, h.1) refl
 
+      start : Pt3
+      start = at_height from job.clear
+
+      end : Pt3
+      end = at_height at job.clear
+
       over : Move
-      over = rapid_to (at_height from job.clear) (at_height at job.clear)
+      over = across job from at
 
       by : (b : Bool) → is_over_place from at ≡ b
           → GoSafely job part done (at_height from job.clear) (if b then [] else over ∷ []) (at_height at job.clear)
       by true e = go_nowhere job part done (at_height from job.clear) (at_height at job.clear) (same e) (at_clear done from ranged)
       by false e = go_once job part done over
-          (across_safe done (at_height from job.clear) (at_height at job.clear) (record { from_ok = raised_range from job.clear ranged ok.clear_ok; to_ok = raised_range at job.clear at_ok ok.clear_ok })
+          (across_safe done over (rapid_made job.rapids start end) (made_no_feed job.rapids start end) (record { from_ok = raised_range from job.clear ranged ok.clear_ok; to_ok = raised_range at job.clear at_ok ok.clear_ok })
           (at_most_itself job.clear) (at_most_itself job.clear))
           (at_clear _ at at_ok)
 
@@ -249,13 +254,14 @@ module _ (job : JobFields) (part : List Tri) (ok : IsJob job) (under : LiesUnder
       from_ok = raised_range at start free.ranged (between (greatest_of job.unit) at.z (over_stock job) start free.ranged.z_ok (over_ok job ok) (through _ _ _ over down) high);
       to_ok = raised_range at low free.ranged (between (greatest_of job.unit) at.z (over_stock job) low free.ranged.z_ok (over_ok job ok) over (through _ _ _ down high));
     };
+    made = feed_made job.rapids (at_height at start) (at_height at low);
     floor_from = from_floor;
     floor_to = to_floor;
-    passes = passes_free peck at free (record {
+    passes = passes_free peck at free feed_is_straight (record {
       from = record { x_same = refl; y_same = refl; z_least = through _ _ _ over down };
       to = record { x_same = refl; y_same = refl; z_least = over };
     });
-    stock = λ rapid x y. absurd (feed_is_no_rapid rapid);
+    stock = λ no_feed x y. absurd (no_feed refl);
     depth = λ feed tested j i there. limit_passes (column_x job i) (column_y job j) (short tested) begins;
   }
     where
@@ -278,10 +284,10 @@ module _ (job : JobFields) (part : List Tri) (ok : IsJob job) (under : LiesUnder
           let to : (job.top -ℤ job.max_cut) ≤ℤ low = reaches job.top low job.max_cut (subst (λ h. h ≤ℤ (low +ℤ job.max_cut)) at_top near) in
           let to_low = limited_by job.floor job.top (top_after job x y done) job.max_cut low under_top to_floor to in
           let from_low = limited_by job.floor job.top (top_after job x y done) job.max_cut start under_top from_floor (through _ _ _ to down) in
-          top_passes solid.cutter (lifted solid peck) (point_tri (point_at x y (cut_limit job (top_after job x y done)))) (stock_over _ start (all_low _ _ _ start from_low from_low from_low))
+          low_passes_all solid.cutter (lifted solid peck) (point_tri (point_at x y (cut_limit job (top_after job x y done)))) (stock_over _ start (all_low _ _ _ start from_low from_low from_low))
           (stock_over _ low (all_low _ _ _ low to_low to_low to_low))
       limit_passes x y near (inr end) =
-          passes_limit_after_cut job done end.move peck x y ok end.member (subst (λ p. job.floor ≤ℤ p.z) (sym end.here) (through _ _ _ to_floor under)) from_floor to_floor
+          passes_limit_after_cut job done end.move peck x y ok end.member (subst (λ p. job.floor ≤ℤ p.z) (sym end.here) (through _ _ _ to_floor under)) from_floor to_floor feed_is_straight
           (subst (λ p. StaysOver (point_at p.x p.y (p.z -ℤ job.max_cut)) peck) (sym end.here) (record {
             from = record { x_same = refl; y_same = refl; z_least = through _ _ _ (lowered z job.max_cut ok.max_cut_ok.low) from };
             to = record { x_same = refl; y_same = refl; z_least = reaches z low job.max_cut near };
@@ -339,8 +345,8 @@ module _ (job : JobFields) (part : List Tri) (ok : IsJob job) (under : LiesUnder
           → GoSafely job part done (at_height at job.clear) ((if b then down ∷ [] else []) ++ plunge job at) at
       by true low = record {
         safe = (
-          over_safe done (at_height at job.clear) (at_height at (over_stock job)) (record { from_ok = raised_range at job.clear free.ranged ok.clear_ok; to_ok = raised_range at (over_stock job) free.ranged (over_ok job ok) }) (clear_most job ok) (at_most_itself (over_stock job))
-              (passes_free down at free stays),
+          over_safe done down (upright_made job.rapids at job.clear (over_stock job)) rapid_is_no_feed (record { from_ok = raised_range at job.clear free.ranged ok.clear_ok; to_ok = raised_range at (over_stock job) free.ranged (over_ok job ok) }) (clear_most job ok) (at_most_itself (over_stock job))
+              (passes_free down at free rapid_is_straight stays),
           plunge_safe (done ++ down ∷ []) at free,
         );
         connect = (refl, led);
@@ -368,10 +374,11 @@ module _ (job : JobFields) (part : List Tri) (ok : IsJob job) (under : LiesUnder
   straight_goes done from visit reached free may = go_once job part done (feed_to from visit.at)
       (record {
         ranged = record { from_ok = reached.ranged; to_ok = free.ranged };
+        made = feed_made job.rapids from visit.at;
         floor_from = reached.floor;
         floor_to = free.floor;
         passes = may.passes;
-        stock = λ rapid x y. absurd (feed_is_no_rapid rapid);
+        stock = λ no_feed x y. absurd (no_feed refl);
         depth = λ feed. may.depth;
       })
       (at_end _ visit.at free (last_of done [] (feed_to from visit.at)))
@@ -410,7 +417,7 @@ module _ (job : JobFields) (part : List Tri) (ok : IsJob job) (under : LiesUnder
       ranged = record { x_ok = ok.home_ok.x_ok; y_ok = ok.home_ok.y_ok; z_ok = ok.clear_ok }
 
       waits : (done : List Move) → IsSafeMove job part done (stay (home job))
-      waits done = across_safe done (home job) (home job) (record { from_ok = ranged; to_ok = ranged }) (at_most_itself job.clear) (at_most_itself job.clear)
+      waits done = across_safe done (stay (home job)) (upright_made job.rapids (home job) job.clear job.clear) rapid_is_no_feed (record { from_ok = ranged; to_ok = ranged }) (at_most_itself job.clear) (at_most_itself job.clear)
 
       by : (b : Bool) → GoSafely job part [] (home job) (if b then stay (home job) ∷ stay (home job) ∷ [] else []) (home job)
       by true = record {

@@ -8,6 +8,7 @@ mod Plunging
 mod Ranged
 mod Straight
 mod ToolLemmas
+mod Made
 pub mod Going
 pub mod Steps
 mod Stages

@@ -11,7 +11,7 @@ use Rattle.mill_base.specs.declared.points.Pt3.{Pt3}
 use Rattle.mill_base.proofs.Ranges.{within_of_unit}
 use Rattle.mill_job.specs.Jobs.{IsJob}
 use Rattle.mill_job.specs.declared.fields.JobFields.{JobFields}
-use Rattle.mill_links.specs.Links.{is_same_point, at_height, climb, cross, descend, detour, feed_to, is_over_place, over_stock, peck_count, pecks, plunge, rapid_to}
+use Rattle.mill_links.specs.Links.{is_same_point, across, at_height, climb, cross, descend, detour, feed_to, is_over_place, over_stock, peck_count, pecks, plunge, rapid_to}
 use Rattle.mill_links.specs.declared.visit.Visit.{Visit}
 use Rattle.mill_links.specs.inner.Linking.{link_moves}
 use Rattle.mill_links.proofs.Kept.{between}
@@ -61,10 +61,10 @@ module _ (job : JobFields) (ok : IsJob job) where
   cross_ranged : (from at : Pt3) → IsInRange from → IsInRange at → MovesInRange (cross job from at)
   cross_ranged from at from_ok at_ok = by (is_over_place from at)
     where
-      by : (t : Bool) → MovesInRange (if t then [] else rapid_to (at_height from job.clear) (at_height at job.clear) ∷ [])
+      by : (t : Bool) → MovesInRange (if t then [] else across job from at ∷ [])
       by true = none
       by false =
-          one (rapid_to (at_height from job.clear) (at_height at job.clear))
+          one (across job from at)
           (record { from_ok = at_level from job.clear from_ok clear_ok; to_ok = at_level at job.clear at_ok clear_ok })
 
   descend_ranged : (at : Pt3) → IsInRange at → MovesInRange (descend job at)

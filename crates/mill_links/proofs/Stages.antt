@@ -7,7 +7,7 @@ use Rattle.std.proofs.lemmas.List.{append-nil}
 use Rattle.mill_base.specs.declared.motion.Move.{Move}
 use Rattle.mill_base.specs.declared.points.Pt3.{Pt3}
 use Rattle.mill_job.specs.declared.fields.JobFields.{JobFields}
-use Rattle.mill_links.specs.Links.{at_height, climb, cross, descend, is_over_place, is_same_point, over_stock, rapid_to}
+use Rattle.mill_links.specs.Links.{across, at_height, climb, cross, descend, is_over_place, is_same_point, over_stock, rapid_to}
 use Rattle.mill_links.proofs.Points.{same_number}
 
 -- with no moves more a list is as it was
@@ -40,9 +40,9 @@ same_over p q z = ap (λ (t : Bool). int_eq p.x q.x && (int_eq p.y q.y && t)) (s
 
 pub no_cross : (job : JobFields) (from at : Pt3) → is_same_point (at_height from job.clear) (at_height at job.clear) ≡ true → cross job from at ≡ []
 no_cross job from at same =
-    ap (λ (t : Bool). if t then [] else rapid_to (at_height from job.clear) (at_height at job.clear) ∷ []) (sym (same_over from at job.clear) ∙ same)
+    ap (λ (t : Bool). if t then [] else across job from at ∷ []) (sym (same_over from at job.clear) ∙ same)
 
 pub one_cross : (job : JobFields) (from at : Pt3) → is_same_point (at_height from job.clear) (at_height at job.clear) ≡ false
-    → cross job from at ≡ rapid_to (at_height from job.clear) (at_height at job.clear) ∷ []
+    → cross job from at ≡ across job from at ∷ []
 one_cross job from at other =
-    ap (λ (t : Bool). if t then [] else rapid_to (at_height from job.clear) (at_height at job.clear) ∷ []) (sym (same_over from at job.clear) ∙ other)
+    ap (λ (t : Bool). if t then [] else across job from at ∷ []) (sym (same_over from at job.clear) ∙ other)

@@ -2,6 +2,7 @@
 use Rattle.std.specs.Prelude.{pos, List, Option, Some, None, IfSome, MatchOption}
 use Rattle.std.proofs.Common.{inl, inr}
 use Rattle.std.proofs.lemmas.List.Elements.{Contains-get_or}
+use Rattle.mill_base.specs.Motion.{IsStraight}
 use Rattle.mill_base.specs.Points.{tri_at}
 use Rattle.mill_base.specs.Solids.{Solid, SolidGouges, lifted, solid_tip}
 use Rattle.mill_base.specs.Tools.{ToolGouges}
@@ -14,10 +15,10 @@ use Rattle.mill_gouge.specs.Gouges.{PassesPart, ToolPassesPart}
 use Rattle.mill_sweep.specs.Vertical.{StaysOver}
 use Rattle.mill_sweep.proofs.Vertical.{vertical_passes}
 
-module _ (m : Move) (part : List Tri) (p : Pt3) (over : StaysOver p m) where
+module _ (m : Move) (part : List Tri) (p : Pt3) (straight : IsStraight m) (over : StaysOver p m) where
   -- straight up or down over a place where it doesn't gouge
   solid_over : (solid : Solid) → ¬ SolidGouges solid (pos 1) p part → PassesPart solid m part
-  solid_over solid free t inside = vertical_passes solid.cutter (lifted solid m) (tri_at part t) (solid_tip solid (pos 1) p) (solid_stays_over solid p m over)
+  solid_over solid free t inside = vertical_passes solid.cutter (lifted solid m) (tri_at part t) (solid_tip solid (pos 1) p) straight (solid_stays_over solid p m over)
       (λ touches. free (record { tri = tri_at part t; member = Contains-get_or part t _ inside; touches = touches }))
 
   holder_over : (o : Option Solid) → ¬ MatchOption o ⊥ (λ holder. SolidGouges holder (pos 1) p part) → IfSome o (λ holder. PassesPart holder m part)

@@ -11,7 +11,7 @@ use Rattle.mill_dexel.specs.Stocks.{IsStock}
 use Rattle.mill_dexel.specs.Tops.{ClearsColumns, IsTested}
 use Rattle.mill_gouge.specs.Gouges.{ToolPassesPart}
 use Rattle.mill_job.specs.Columns.{home}
-use Rattle.mill_job.specs.Habits.{is_elsewhere}
+use Rattle.mill_job.specs.Habits.{is_elsewhere, made_by}
 use Rattle.mill_job.specs.Jobs.{tool_of}
 use Rattle.mill_margin.specs.Margins.{offset_of}
 use Rattle.mill_job.specs.declared.fields.JobFields.{JobFields}
@@ -54,9 +54,13 @@ is_same_point p q = int_eq p.x q.x && (int_eq p.y q.y && int_eq p.z q.z)
 abbrev pub is_over_place : Pt3 → Pt3 → Bool
 is_over_place p q = int_eq p.x q.x && int_eq p.y q.y
 
+-- the rapid across at the clear height, as the job's machine makes it
+abbrev pub across : JobFields → Pt3 → Pt3 → Move
+across job from at = made_by job.rapids (rapid_to (at_height from job.clear) (at_height at job.clear))
+
 -- across at the clear height, to another x or y
 abbrev pub cross : JobFields → Pt3 → Pt3 → List Move
-cross job from at = if is_over_place from at then [] else rapid_to (at_height from job.clear) (at_height at job.clear) ∷ []
+cross job from at = if is_over_place from at then [] else across job from at ∷ []
 
 -- the lowest height of the tool's tip at which nothing of the cutter, with the slack around it, is under the top of the stock
 unfoldable pub over_stock : JobFields → ℤ

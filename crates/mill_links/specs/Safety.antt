@@ -1,6 +1,6 @@
--- What every move of a plan keeps: it is in the range of the job's unit and over the floor, and cutter and holder pass the part; as a rapid it passes what is left of the stock, and as a feed it
--- cuts no column too deep.
-use Rattle.std.specs.Prelude.{◌≡◌, ◌⊎◌, ℤ, pos, ◌-ℤ◌, ◌≤ℤ◌, List, [], ◌∷◌, ◌++◌, All, Contains}
+-- What every move of a plan keeps: it is what the job's machine makes of its text, in the range of the job's unit and over the floor, and cutter and holder pass the part; it passes what is left of the stock
+-- if it is no feed, and as a feed it cuts no column too deep.
+use Rattle.std.specs.Prelude.{◌≡◌, ◌≢◌, ◌⊎◌, ℤ, pos, ◌-ℤ◌, ◌≤ℤ◌, List, [], ◌∷◌, ◌++◌, All, Contains}
 use Rattle.mill_base.specs.Covers.{IsUnder}
 use Rattle.mill_base.specs.Points.{point_at}
 use Rattle.mill_base.specs.Ranges.{IsInUnitRange, MoveInUnitRange}
@@ -8,14 +8,16 @@ use Rattle.mill_base.specs.Tools.{ToolGouges}
 use Rattle.mill_base.specs.declared.points.Pt3.{Pt3}
 use Rattle.mill_base.specs.declared.points.Tri.{Tri}
 use Rattle.mill_base.specs.declared.motion.Move.{Move}
-use Rattle.mill_base.specs.declared.motion.Kind.TheVariants.{Rapid, Feed}
+use Rattle.mill_base.specs.declared.motion.Kind.TheVariants.{Feed}
 use Rattle.mill_dexel.specs.Tops.{ClearsColumns, top_after}
 use Rattle.mill_gouge.specs.Gouges.{ToolPassesPart}
 use Rattle.mill_job.specs.Columns.{home}
+use Rattle.mill_job.specs.Habits.{made_by}
 use Rattle.mill_job.specs.Jobs.{IsJob, tool_of}
 use Rattle.mill_job.specs.Solids.{stock_solid_of}
 use Rattle.mill_job.specs.declared.fields.JobFields.{JobFields}
 use Rattle.mill_margin.specs.Margins.{offset_of}
+use Rattle.mill_ngc.specs.Writing.{as_written}
 use Rattle.mill_sweep.specs.Solids.{SolidPassesPoint}
 use Rattle.mill_links.specs.Links.{IsLink, head, way_home}
 use Rattle.mill_links.specs.Tours.{IsTour, last_place}
@@ -24,10 +26,11 @@ use Rattle.mill_links.specs.declared.visit.Visit.{Visit}
 -- after the moves done so far, this one is safe
 pub record IsSafeMove (job : JobFields) (part : List Tri) (done : List Move) (m : Move) : Type 0 where
   pub ranged : MoveInUnitRange job.unit m
+  pub made : made_by job.rapids (as_written m) ≡ m
   pub floor_from : job.floor ≤ℤ m.from.z
   pub floor_to : job.floor ≤ℤ m.to.z
   pub passes : ToolPassesPart (tool_of job) m part
-  pub stock : m.kind ≡ Rapid → (x y : ℤ) → SolidPassesPoint (stock_solid_of job) m (point_at x y (top_after job x y done))
+  pub stock : m.kind ≢ Feed → (x y : ℤ) → SolidPassesPoint (stock_solid_of job) m (point_at x y (top_after job x y done))
   pub depth : m.kind ≡ Feed → ClearsColumns job done m
 
 -- so are these moves, each after those before it

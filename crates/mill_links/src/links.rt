@@ -266,7 +266,8 @@ fn climb(job: &Job, from: Pt3, out: &mut Vec<Move>) -> Result<(), WantOfMemory>
     add(rapid_to(from, at_height(from, job.fields.clear)), out)
 }
 
-/// Adds the rapid across at the clear height, where the places differ in x or y.
+/// Adds the rapid across at the clear height, as the job's machine makes it, where the places
+/// differ in x or y.
 fn cross(job: &Job, from: Pt3, at: Pt3, out: &mut Vec<Move>) -> Result<(), WantOfMemory>
     ensures ok { OnOk result (out.new.items ≡ out.old.items ++ cross_of job.now.fields from at) }
     ensures err { OnErr result (out.new.items ≡ out.old.items) }
@@ -276,7 +277,7 @@ fn cross(job: &Job, from: Pt3, at: Pt3, out: &mut Vec<Move>) -> Result<(), WantO
     if start == end {
         return Ok(());
     }
-    add(rapid_to(start, end), out)
+    add(job.fields.rapids.made(rapid_to(start, end)), out)
 }
 
 /// The lowest height of the tool's tip at which nothing of the cutter, with the slack around it, is

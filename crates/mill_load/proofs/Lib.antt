@@ -1,3 +1,4 @@
 pub mod Reading
 pub mod Programs
 pub mod Asked
+pub mod Bending

@@ -1,5 +1,5 @@
 -- A program's text, taken piece by piece.
-use Rattle.std.proofs.Common.{◌≡◌, ℕ, ◌+◌, ◌≤◌, ◌<◌, List, [], ◌++◌, length, take, Option, Some, None, Ok, Err, refl, ap, ◌∙◌, arith, subst, length-append}
+use Rattle.std.proofs.Common.{◌≡◌, ℕ, ◌+◌, ◌≤◌, ◌<◌, List, [], ◌++◌, length, take, Option, Some, None, Ok, Err, refl, sym, ap, ◌∙◌, arith, subst, length-append}
 use Rattle.std.specs.Prelude.{IfSome}
 use Rattle.mill_base.specs.declared.limits.TheConstants.{MAX_FILE_BYTES}
 use Rattle.mill_base.specs.declared.points.Pt3.{Pt3}
@@ -10,19 +10,21 @@ use Rattle.mill_io.specs.Contents.{GivesFrom}
 use Rattle.mill_io.specs.Readings.{AreHeld, Reading as FileReading}
 use Rattle.mill_io.proofs.Read.{length_more, read_more, read_all}
 use Rattle.mill_ngc.specs.Programs.{program_of}
-use Rattle.mill_ngc.specs.Pieces.{Reading, reading_at, after_lines, fed, at_end, last_answer, lines_read, AreSound, FollowOn, MovesSoFar}
+use Rattle.mill_ngc.specs.Pieces.{Reading, reading_at, after_lines, fed, at_end, last_answer, lines_read, AreSound, MovesSoFar}
 use Rattle.mill_block.specs.declared.fault.NgcFault.{NgcFault}
 use Rattle.mill_block.specs.declared.rules.Rules.{Rules}
 use Rattle.mill_ngc.proofs.JoinLemmas.{pieces_join}
 use Rattle.mill_ngc.proofs.WholeText.{last_moves, last_fault}
 use Rattle.mill_job.specs.declared.fields.JobFields.{JobFields}
 use Rattle.mill_job.specs.Columns.{home}
+use Rattle.mill_job.specs.Habits.{run_by}
 use Rattle.mill_load.specs.declared.file.File.{File}
 use Rattle.mill_load.specs.declared.load.LoadFault.{LoadFault}
 use Rattle.mill_load.specs.declared.load.LoadFault.TheVariants.{Memory, ReadFault, Unfit}
 use Rattle.mill_load.specs.declared.load.Unfit.TheVariants.{TooLong, JobRefused, PartRefused, ListRefused, ProgramRefused, PartTop}
 use Rattle.mill_load.specs.Setup.{IsTooLong}
-use Rattle.mill_load.specs.Programs.{IsProgramText, IsRefusedProgram, rules_of}
+use Rattle.mill_load.specs.Programs.{IsProgramText, IsRefusedProgram, SaysMoves, rules_of}
+use Rattle.mill_load.proofs.Bending.{run_sound}
 use Rattle.mill_load.specs.inner.Steps.{HasTaken, TakesFile, TakesFront, LoadsNone}
 use Rattle.mill_load.specs.Loads.{LoadsProgram, AreMoves}
 
@@ -103,12 +105,12 @@ no_text job told file (Unfit (ProgramRefused f fault)) h = absurd h
 no_text job told file (Unfit (PartTop height top unit)) h = absurd h
 
 -- the moves of a whole file
-pub file_moves : (job : JobFields) (start : Pt3) (unit : LengthUnit) (asked : Rules) (told : Option (List ℕ)) (reader : Reading) (moves all : List Move) (u : Unit {0}) → start ≡ home job → unit ≡ job.unit → asked ≡ rules_of job → TakesFile start unit asked told reader moves
-    → Ok u ≡ last_answer (at_end (reader, moves)).0 → all ≡ (at_end (reader, moves)).1 → IfSome told (λ text. IsProgramText job text all)
-file_moves job start unit asked None reader moves all u from of_job asks f e is = tt
-file_moves job start unit asked (Some bytes) reader moves all u from of_job asks f e is =
-    let reads : program_of (home job) job.unit (rules_of job) f.text ≡ Ok all = rw (← asks, ← from, ← of_job) (last_moves start unit asked f.text (reader, moves) u all f.taken.all e is) in
-    subst (λ (t : List ℕ). IsProgramText job t all) f.whole (record { fits = f.fits; reads = reads })
+pub file_moves : (job : JobFields) (start : Pt3) (unit : LengthUnit) (asked : Rules) (told : Option (List ℕ)) (reader : Reading) (moves read made : List Move) (u : Unit {0}) → start ≡ home job → unit ≡ job.unit → asked ≡ rules_of job → TakesFile start unit asked told reader moves
+    → Ok u ≡ last_answer (at_end (reader, moves)).0 → read ≡ (at_end (reader, moves)).1 → made ≡ run_by job.rapids read → IfSome told (λ text. IsProgramText job text made)
+file_moves job start unit asked None reader moves read made u from of_job asks f e is run = tt
+file_moves job start unit asked (Some bytes) reader moves read made u from of_job asks f e is run =
+    let reads : program_of (home job) job.unit (rules_of job) f.text ≡ Ok read = rw (← asks, ← from, ← of_job) (last_moves start unit asked f.text (reader, moves) u read f.taken.all e is) in
+    subst (λ (t : List ℕ). IsProgramText job t made) f.whole (record { fits = f.fits; read = read; reads = reads; made = run })
 
 -- the first fault of a whole file
 pub file_fault : (job : JobFields) (start : Pt3) (unit : LengthUnit) (asked : Rules) (told : Option (List ℕ)) (reader : Reading) (moves : List Move) (fault : NgcFault) → start ≡ home job → unit ≡ job.unit → asked ≡ rules_of job → TakesFile start unit asked told reader moves
@@ -121,13 +123,19 @@ file_fault job start unit asked (Some bytes) reader moves fault from of_job asks
 -- ---- a text that is held whole
 
 -- the moves of a whole text
-pub text_moves : (job : JobFields) (start : Pt3) (unit : LengthUnit) (asked : Rules) (text : List ℕ) (reader : Reading) (moves all : List Move) (u : Unit {0}) → start ≡ home job → unit ≡ job.unit → asked ≡ rules_of job → HasTaken start unit asked reader moves text
-    → Ok u ≡ last_answer (at_end (reader, moves)).0 → all ≡ (at_end (reader, moves)).1 → program_of (home job) job.unit (rules_of job) text ≡ Ok all
-text_moves job start unit asked text reader moves all u from of_job asks taken e is = rw (← asks, ← from, ← of_job) (last_moves start unit asked text (reader, moves) u all taken.all e is)
+pub text_moves : (job : JobFields) (start : Pt3) (unit : LengthUnit) (asked : Rules) (text : List ℕ) (reader : Reading) (moves read made : List Move) (u : Unit {0}) → start ≡ home job → unit ≡ job.unit → asked ≡ rules_of job → HasTaken start unit asked reader moves text
+    → Ok u ≡ last_answer (at_end (reader, moves)).0 → read ≡ (at_end (reader, moves)).1 → made ≡ run_by job.rapids read → SaysMoves job text made
+text_moves job start unit asked text reader moves read made u from of_job asks taken e is run = record {
+  read = read;
+  reads = rw (← asks, ← from, ← of_job) (last_moves start unit asked text (reader, moves) u read taken.all e is);
+  made = run;
+}
 
--- sound moves are moves that the verifier takes
-pub moves_ok : (job : JobFields) (start : Pt3) (unit : LengthUnit) (asked : Rules) (moves : List Move) → start ≡ home job → unit ≡ job.unit → asked ≡ rules_of job → AreSound start unit asked moves → AreMoves job moves
-moves_ok job start unit asked moves from of_job asks sound = record { in_range = subst (λ (u : LengthUnit). MovesInUnitRange u moves) of_job sound.in_range; follow = rw (← from, ← asks) sound.follow; few = sound.few }
+-- what the job's machine makes of sound moves are moves that the verifier takes
+pub moves_ok : (job : JobFields) (start : Pt3) (unit : LengthUnit) (asked : Rules) (read made : List Move) → start ≡ home job → unit ≡ job.unit → asked ≡ rules_of job → AreSound start unit asked read → made ≡ run_by job.rapids read → AreMoves job made
+moves_ok job start unit asked read made from of_job asks sound run =
+    let all : AreSound start unit asked made = subst (AreSound start unit asked) (sym run) (run_sound job.rapids start unit asked read sound) in
+    record { in_range = subst (λ (u : LengthUnit). MovesInUnitRange u made) of_job all.in_range; follow = rw (← from, ← asks) all.follow; few = all.few }
 
 -- the first fault of a whole text
 pub text_fault : (job : JobFields) (start : Pt3) (unit : LengthUnit) (asked : Rules) (text : List ℕ) (reader : Reading) (moves : List Move) (fault : NgcFault) → start ≡ home job → unit ≡ job.unit → asked ≡ rules_of job → HasTaken start unit asked reader moves text

@@ -14,6 +14,7 @@ mod limits;
 mod load;
 mod place;
 mod program;
+mod rapids;
 mod rules;
 
 pub use file::File;
@@ -24,4 +25,5 @@ pub use load::{
 };
 pub use place::{Coordinate, WordFault, read_height, read_place};
 pub use program::{load_program, moves_from, read_moves};
+pub use rapids::run_moves;
 pub use rules::rules_for;

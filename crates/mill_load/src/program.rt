@@ -12,12 +12,13 @@ ghost use Rattle.mill_block.specs.declared.fault.NgcFault.TheVariants.{WantOfMem
 ghost use Rattle.mill_block.specs.declared.rules.Rules.{Rules as AskedRules};
 ghost use Rattle.mill_load.specs.Loads.{LoadsProgram, NamesFault, OnlyLoads, AreMoves, CountsFault};
 ghost use Rattle.mill_load.specs.inner.Steps.{HasTaken, TakesFile, LoadsNone, IsFirst};
-ghost use Rattle.mill_load.specs.Programs.{rules_of};
+ghost use Rattle.mill_load.specs.Programs.{SaysMoves, rules_of};
 ghost use Rattle.mill_load.specs.Setup.{Fits};
 ghost use Rattle.mill_load.specs.declared.file.File.{File as AnyFile};
 
 use crate::file::File;
 use crate::load::{LoadFault, Unfit};
+use crate::rapids::run_moves;
 use crate::rules::rules_for;
 use mill_base::{MAX_FILE_BYTES, Move, Pt3, Unit, WantOfMemory};
 use mill_io::{PieceEnd, Pieces, Shelf};
@@ -29,7 +30,7 @@ use std::alloc::Global;
 const PIECE: usize = 65_536;
 
 /// Reads the program that `name` names, from the job's home, in the job's unit and by the job's
-/// rules. A fault is told as that of `file`.
+/// rules, as moves of the job's machine. A fault is told as that of `file`.
 ///
 /// Its text is never held whole. It is read to the file's end, also behind its first fault and
 /// behind the program's end, so that a failed read and a file that is too long are told before a
@@ -65,7 +66,10 @@ pub fn load_program<S: Shelf>(
         Err(fault) => return Err(fault),
     };
     match reader.finish(&mut moves) {
-        Ok(()) => Ok(moves),
+        Ok(()) => {
+            run_moves(job.fields.rapids, &mut moves);
+            Ok(moves)
+        }
         Err(NgcFault::WantOfMemory) => Err(LoadFault::Memory),
         Err(fault) => Err(LoadFault::Unfit(Unfit::ProgramRefused(file, fault))),
     }
@@ -154,7 +158,8 @@ fn take_piece(reader: &mut Reader, piece: &[u8], moves: &mut Vec<Move>) -> Resul
 }
 
 /// The moves of a program's text within the limit of a file, from the job's home, in the job's
-/// unit and by the job's rules, or why there are none. A fault is told as that of `file`.
+/// unit, by the job's rules and of its machine, or why there are none. A fault is told as that of
+/// `file`.
 pub fn moves_from(alloc: Global, text: &[u8], job: &Job, file: File) -> Result<Vec<Move>, LoadFault>
     requires { Fits text.now }
     ensures told { LoadsProgram job.now.fields (Some text.now) file result }
@@ -168,12 +173,10 @@ pub fn moves_from(alloc: Global, text: &[u8], job: &Job, file: File) -> Result<V
     }
 }
 
-/// The moves of a program's text of any length, from the job's home, in the job's unit and by the
-/// job's rules, or its first fault.
+/// The moves of a program's text of any length, from the job's home, in the job's unit, by the
+/// job's rules and of its machine, or its first fault.
 pub fn read_moves(alloc: Global, text: &[u8], job: &Job) -> Result<Vec<Move>, NgcFault>
-    ensures told { IfOk result (λ moves.
-        program_of (home job.now.fields) job.now.fields.unit (rules_of job.now.fields)
-        text.now ≡ Ok moves.items) }
+    ensures told { IfOk result (λ moves. SaysMoves job.now.fields text.now moves.items) }
     ensures fault { IfErr result (λ fault. fault ≢ NoMemory →
         program_of (home job.now.fields) job.now.fields.unit (rules_of job.now.fields)
         text.now ≡ Err fault) }
@@ -185,5 +188,6 @@ pub fn read_moves(alloc: Global, text: &[u8], job: &Job) -> Result<Vec<Move>, Ng
         return Err(NgcFault::WantOfMemory);
     };
     reader.finish(&mut moves)?;
+    run_moves(job.fields.rapids, &mut moves);
     Ok(moves)
 }

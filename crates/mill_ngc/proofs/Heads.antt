@@ -23,7 +23,7 @@ use Rattle.mill_block.specs.declared.progress.Known.TheVariants.{Nothing, Height
 use Rattle.mill_block.specs.declared.said.Said.{Said}
 use Rattle.mill_ngc.specs.Programs.{lines_of, moves_from, program_of}
 use Rattle.mill_ngc.specs.Readings.{rules_with}
-use Rattle.mill_ngc.specs.Writing.{head_moves, stay}
+use Rattle.mill_ngc.specs.Writing.{as_written, head_moves, stay}
 use Rattle.mill_ngc.proofs.MoveLines.{IsLine, IsMoveLine, axis_of, axis_units-num, end_lines, going, known_to, motion_of, moves_from-header, moves_from-moves, not_long, units_num}
 
 -- ---- the words
@@ -138,7 +138,7 @@ AreHead unit (Some p) lines = ⊥
 moves_from-begun : (unit : Unit) (line : Move → List ℕ) → ((m : Move) → MoveInUnitRange unit m → IsMoveLine unit m (line m))
     → (begin : Option Pt3) (start : Pt3) (moves : List Move) (head : List (List ℕ)) → AreHead unit begin head
     → Follow start (head_moves begin ++ moves) → MovesInUnitRange unit (head_moves begin ++ moves) → length (head_moves begin ++ moves) ≤ MAX_MOVES
-    → moves_from (known_to begin Nothing unit start Off false 0 2) [] (head ++ (map line moves ++ end_lines)) ≡ Ok (head_moves begin ++ moves)
+    → moves_from (known_to begin Nothing unit start Off false 0 2) [] (head ++ (map line moves ++ end_lines)) ≡ Ok (head_moves begin ++ map as_written moves)
 moves_from-begun unit line is_line None start moves head is_head follow fits few =
     rw is_head (moves_from-moves None unit line is_line moves start Off false 0 2 [] follow fits (omega arith))
 moves_from-begun unit line is_line (Some p) start moves (up ∷ across ∷ []) is_head follow fits few =
@@ -150,11 +150,16 @@ moves_from-begun unit line is_line (Some p) start moves [] is_head follow fits f
 moves_from-begun unit line is_line (Some p) start moves (up ∷ []) is_head follow fits few = absurd is_head
 moves_from-begun unit line is_line (Some p) start moves (up ∷ across ∷ other ∷ more) is_head follow fits few = absurd is_head
 
+-- the moves of the way to the first place are straight rapids
+head-written : (begin : Option Pt3) (moves : List Move) → head_moves begin ++ map as_written moves ≡ map as_written (head_moves begin ++ moves)
+head-written None moves = refl
+head-written (Some p) moves = refl
+
 -- a program of these lines means the moves, which follow on each other from the start
 pub program_of-moves : (unit : Unit) (line : Move → List ℕ) → ((m : Move) → MoveInUnitRange unit m → IsMoveLine unit m (line m))
     → (begin : Option Pt3) (start : Pt3) (moves : List Move) (head : List (List ℕ)) (text : List ℕ) → AreHead unit begin head
     → Follow start (head_moves begin ++ moves) → MovesInUnitRange unit (head_moves begin ++ moves) → length (head_moves begin ++ moves) ≤ MAX_MOVES
-    → lines_of text ≡ codes "%" ∷ codes "G17 G21 G90" ∷ (head ++ (map line moves ++ end_lines)) → program_of start unit (rules_with begin) text ≡ Ok (head_moves begin ++ moves)
+    → lines_of text ≡ codes "%" ∷ codes "G17 G21 G90" ∷ (head ++ (map line moves ++ end_lines)) → program_of start unit (rules_with begin) text ≡ Ok (map as_written (head_moves begin ++ moves))
 unfolding program_of
 program_of-moves unit line is_line begin start moves head text is_head follow fits few lines =
-    rw lines (moves_from-header begin unit start (head ++ (map line moves ++ end_lines)) ∙ moves_from-begun unit line is_line begin start moves head is_head follow fits few)
+    rw lines (moves_from-header begin unit start (head ++ (map line moves ++ end_lines)) ∙ moves_from-begun unit line is_line begin start moves head is_head follow fits few ∙ ap (λ (ms : List Move). Ok ms) (head-written begin moves))

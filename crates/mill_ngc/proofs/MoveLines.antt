@@ -12,7 +12,7 @@ use Rattle.mill_base.specs.Ranges.{IsInUnitRange, MoveInUnitRange, MovesInUnitRa
 use Rattle.mill_base.specs.Motion.{Follow}
 use Rattle.mill_base.specs.declared.points.Pt3.{Pt3}
 use Rattle.mill_base.specs.declared.motion.Kind.{Kind}
-use Rattle.mill_base.specs.declared.motion.Kind.TheVariants.{Rapid, Feed}
+use Rattle.mill_base.specs.declared.motion.Kind.TheVariants.{Rapid, Feed, Dogleg}
 use Rattle.mill_base.specs.declared.motion.Move.{Move}
 use Rattle.mill_words.specs.Marks.{marks_from}
 use Rattle.mill_words.specs.Lines.{grown_word, finished, started, read_marks, line_of}
@@ -31,6 +31,7 @@ use Rattle.mill_block.specs.Lines.{is_percent, after_words, after_line, start_at
 use Rattle.mill_block.specs.Drives.{no_drive}
 use Rattle.mill_block.specs.declared.progress.Known.{Known}
 use Rattle.mill_block.specs.declared.progress.Known.TheVariants.{Nothing, All}
+use Rattle.mill_ngc.specs.Writing.{as_written, written_as}
 use Rattle.mill_ngc.specs.Programs.{moves_from}
 use Rattle.mill_ngc.specs.Readings.{rules_with}
 
@@ -46,6 +47,7 @@ units_num unit z = record { neg = int_lt z (pos 0); mant = nat_abs z; scale = pl
 abbrev pub motion_number : Kind → ℕ
 motion_number Rapid = 0
 motion_number Feed = 1
+motion_number Dogleg = 0
 
 -- G0 or G1
 abbrev pub motion_of : Kind → Word
@@ -88,12 +90,14 @@ move_said unit kind to = record {
 }
 
 said_by-move : (unit : Unit) (line : ℕ) (positioned : Bool) (kind : Kind) (from to : Pt3)
-    → said_by line positioned (record { slash = false; numbered = false; words = move_words unit (record { kind = kind; from = from; to = to }) }) ≡ Ok (move_said unit kind to)
+    → said_by line positioned (record { slash = false; numbered = false; words = move_words unit (record { kind = kind; from = from; to = to }) }) ≡ Ok (move_said unit (written_as kind) to)
 unfolding said_from after_entry entry_of whole_of
 said_by-move unit line true Rapid from to = refl
 said_by-move unit line true Feed from to = refl
+said_by-move unit line true Dogleg from to = refl
 said_by-move unit line false Rapid from to = refl
 said_by-move unit line false Feed from to = refl
+said_by-move unit line false Dogleg from to = refl
 
 -- ---- what they do
 
@@ -154,11 +158,11 @@ not_long n short = grind (arith, nat_tests)
 
 -- behind the header, the line of a move makes this move
 after_line-move : (begin : Option Pt3) (unit : Unit) (m : Move) (mode : Mode) (positioned : Bool) (moves number : ℕ) (line : List ℕ) → IsInUnitRange unit m.to → moves < MAX_MOVES → IsMoveLine unit m line
-    → after_line (going begin unit m.from mode positioned moves number) line ≡ Ok (going begin unit m.to (On m.kind) true (moves + 1) (number + 1), m ∷ [])
+    → after_line (going begin unit m.from mode positioned moves number) line ≡ Ok (going begin unit m.to (On (written_as m.kind)) true (moves + 1) (number + 1), as_written m ∷ [])
 unfolding after_line after_words
 after_line-move begin unit m mode positioned moves number line fits few is_line =
     rw (not_long (length line) is_line.short, is_line.other, is_line.words_are, said_by-move unit (number + 1) positioned m.kind m.from m.to)
-    (acted-move begin unit m.from mode positioned moves (number + 1) m.kind m.to fits few)
+    (acted-move begin unit m.from mode positioned moves (number + 1) (written_as m.kind) m.to fits few)
 
 -- ---- the program
 
@@ -174,7 +178,7 @@ moves_from-end begin unit here mode false count number done = refl
 
 moves_from-move : (begin : Option Pt3) (unit : Unit) (m : Move) (here : Pt3) (mode : Mode) (positioned : Bool) (count number : ℕ) (done : List Move) (line : List ℕ) (lines : List (List ℕ))
     → m.from ≡ here → IsInUnitRange unit m.to → count < MAX_MOVES → IsMoveLine unit m line
-    → moves_from (going begin unit here mode positioned count number) done (line ∷ lines) ≡ moves_from (going begin unit m.to (On m.kind) true (count + 1) (number + 1)) (done ++ m ∷ []) lines
+    → moves_from (going begin unit here mode positioned count number) done (line ∷ lines) ≡ moves_from (going begin unit m.to (On (written_as m.kind)) true (count + 1) (number + 1)) (done ++ as_written m ∷ []) lines
 unfolding moves_from
 moves_from-move begin unit m here mode positioned count number done line lines follow fits few is_line =
     rw (← follow, after_line-move begin unit m mode positioned count number line fits few is_line) refl
@@ -183,14 +187,14 @@ moves_from-move begin unit m here mode positioned count number done line lines f
 pub moves_from-moves : (begin : Option Pt3) (unit : Unit) (line : Move → List ℕ) → ((m : Move) → MoveInUnitRange unit m → IsMoveLine unit m (line m))
     → (moves : List Move) (here : Pt3) (mode : Mode) (positioned : Bool) (count number : ℕ) (done : List Move)
     → Follow here moves → MovesInUnitRange unit moves → count + length moves ≤ MAX_MOVES
-    → moves_from (going begin unit here mode positioned count number) done (map line moves ++ end_lines) ≡ Ok (done ++ moves)
+    → moves_from (going begin unit here mode positioned count number) done (map line moves ++ end_lines) ≡ Ok (done ++ map as_written moves)
 moves_from-moves begin unit line is_line [] here mode positioned count number done follow fits few = moves_from-end begin unit here mode positioned count number done
 moves_from-moves begin unit line is_line (m ∷ moves) here mode positioned count number done follow fits few =
     let first : MoveInUnitRange unit m = fits m (search rules) in
     let others : MovesInUnitRange unit moves = λ n member. fits n (Contains-append_right (m ∷ []) moves n member) in
     moves_from-move begin unit m here mode positioned count number done (line m) (map line moves ++ end_lines) follow.0 first.to_ok (omega arith) (is_line m first)
-    ∙ moves_from-moves begin unit line is_line moves m.to (On m.kind) true (count + 1) (number + 1) (done ++ m ∷ []) follow.1 others (omega arith)
-    ∙ ap (λ (ms : List Move). Ok ms) (append_assoc done (m ∷ []) moves)
+    ∙ moves_from-moves begin unit line is_line moves m.to (On (written_as m.kind)) true (count + 1) (number + 1) (done ++ as_written m ∷ []) follow.1 others (omega arith)
+    ∙ ap (λ (ms : List Move). Ok ms) (append_assoc done (as_written m ∷ []) (map as_written moves))
 
 -- behind the header nothing is known yet of the tool's place, where it may be anywhere
 pub moves_from-header : (begin : Option Pt3) (unit : Unit) (start : Pt3) (lines : List (List ℕ))

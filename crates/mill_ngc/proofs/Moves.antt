@@ -8,7 +8,7 @@ use Rattle.mill_base.specs.Numbers.{Within}
 use Rattle.mill_base.specs.Ranges.{IsInUnitRange, MoveInUnitRange, MovesInUnitRange}
 use Rattle.mill_base.specs.Units.{greatest_of}
 use Rattle.mill_base.specs.declared.motion.Kind.{Kind}
-use Rattle.mill_base.specs.declared.motion.Kind.TheVariants.{Rapid, Feed}
+use Rattle.mill_base.specs.declared.motion.Kind.TheVariants.{Rapid, Feed, Dogleg}
 use Rattle.mill_base.specs.declared.motion.Move.{Move}
 use Rattle.mill_base.specs.declared.points.Pt3.{Pt3}
 use Rattle.mill_base.specs.declared.unit.Unit.{Unit}
@@ -30,6 +30,7 @@ use Rattle.mill_ngc.proofs.Numerals.{NoFeed-canonical, axis_spelled, word_of-axi
 digit_text : Kind → List ℕ
 digit_text Rapid = 48 ∷ []
 digit_text Feed = 49 ∷ []
+digit_text Dogleg = 48 ∷ []
 
 -- G0 or G1 as it is spelled
 abbrev motion_spelled : Kind → Spelled
@@ -39,16 +40,19 @@ word_of-motion : (kind : Kind) → word_of (motion_spelled kind) ≡ motion_of k
 unfolding digit_text
 word_of-motion Rapid = refl
 word_of-motion Feed = refl
+word_of-motion Dogleg = refl
 
 IsSpelled-motion : (kind : Kind) → IsSpelled (motion_spelled kind)
 unfolding digit_text
 IsSpelled-motion Rapid = record { least = omega arith; most = omega arith; no_line_number = refl; whole = (omega arith, tt); part = tt; some = omega arith; few = omega arith }
+IsSpelled-motion Dogleg = record { least = omega arith; most = omega arith; no_line_number = refl; whole = (omega arith, tt); part = tt; some = omega arith; few = omega arith }
 IsSpelled-motion Feed = record { least = omega arith; most = omega arith; no_line_number = refl; whole = (omega arith, tt); part = tt; some = omega arith; few = omega arith }
 
 spelling-motion : (kind : Kind) → spelling (motion_spelled kind) ≡ motion_word kind
 unfolding digit_text
 spelling-motion Rapid = refl
 spelling-motion Feed = refl
+spelling-motion Dogleg = refl
 
 -- an axis: its letter, and where the move ends on it
 record Axis : Type 0 where
@@ -118,6 +122,7 @@ line_words unit kind axes ok few =
 length-motion : (kind : Kind) → length (motion_word kind) ≤ 2
 length-motion Rapid = omega arith
 length-motion Feed = omega arith
+length-motion Dogleg = omega arith
 
 length-axes : (unit : Unit) (axes : List Axis) → AreAxes unit axes → length (axes_text unit axes) ≤ 10 * length axes
 length-axes unit [] ok = omega arith
@@ -131,6 +136,7 @@ line_short unit kind axes ok few = omega (arith, length-append (motion_word kind
 is_percent-by : (kind : Kind) (rest : List ℕ) → is_percent (motion_word kind ++ rest) ≡ false
 is_percent-by Rapid rest = refl
 is_percent-by Feed rest = refl
+is_percent-by Dogleg rest = refl
 
 line_is : (unit : Unit) (kind : Kind) (axes : List Axis) → AreAxes unit axes → length axes ≤ 3 → IsLine (motion_of kind ∷ axes_words unit axes) (motion_word kind ++ axes_text unit axes)
 line_is unit kind axes ok few = record {
@@ -150,6 +156,7 @@ NoFeed-axes unit (a ∷ axes) ok =
 NoFeed-motion : (kind : Kind) → NoFeed (motion_word kind)
 NoFeed-motion Rapid = (refl, (refl, tt))
 NoFeed-motion Feed = (refl, (refl, tt))
+NoFeed-motion Dogleg = (refl, (refl, tt))
 
 NoFeed-line : (unit : Unit) (kind : Kind) (axes : List Axis) → AreAxes unit axes → NoFeed (motion_word kind ++ axes_text unit axes)
 NoFeed-line unit kind axes ok = NoFeed-append (motion_word kind) (axes_text unit axes) (NoFeed-motion kind) (NoFeed-axes unit axes ok)

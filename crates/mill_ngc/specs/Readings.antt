@@ -1,5 +1,5 @@
 -- A written program read back.
-use Rattle.std.specs.Prelude.{◌≡◌, ◌≤◌, ℕ, false, is_some, List, ◌++◌, length, Option, Ok}
+use Rattle.std.specs.Prelude.{◌≡◌, ◌≤◌, ℕ, false, is_some, List, ◌++◌, length, map, Option, Ok}
 use Rattle.mill_base.specs.declared.limits.TheConstants.{MAX_MOVES}
 use Rattle.mill_base.specs.declared.points.Pt3.{Pt3}
 use Rattle.mill_base.specs.declared.motion.Move.{Move}
@@ -8,16 +8,16 @@ use Rattle.mill_base.specs.Motion.{Follow}
 use Rattle.mill_base.specs.Ranges.{MovesInUnitRange}
 use Rattle.mill_block.specs.declared.rules.Rules.{Rules}
 use Rattle.mill_ngc.specs.Programs.{program_of}
-use Rattle.mill_ngc.specs.Writing.{head_moves}
+use Rattle.mill_ngc.specs.Writing.{as_written, head_moves}
 
 -- what is asked of such a program: with a way to its first place the tool may be anywhere before
 abbrev pub rules_with : Option Pt3 → Rules
 rules_with begin = record { from_anywhere = is_some begin; needs_spindle = false }
 
--- from a start from which all of these follow on each other, the text means exactly these moves; with a way to a first place that is this place, else it is the first move's start, or any where there is no move
+-- from a start from which all of these follow on each other, the text means exactly these moves, a dogleg as a straight rapid; with a way to a first place that is this place, else it is the first move's start, or any where there is no move
 abbrev pub ReadsAs : Unit → Option Pt3 → List Move → List ℕ → Type 0
 ReadsAs unit begin all text =
-    (start : Pt3) → Follow start all → MovesInUnitRange unit all → length all ≤ MAX_MOVES → program_of start unit (rules_with begin) text ≡ Ok all
+    (start : Pt3) → Follow start all → MovesInUnitRange unit all → length all ≤ MAX_MOVES → program_of start unit (rules_with begin) text ≡ Ok (map as_written all)
 
 -- so it reads back as its moves, with those of the way to the first place before them
 abbrev pub ReadsBack : Unit → Option Pt3 → List Move → List ℕ → Type 0

@@ -2,7 +2,7 @@
 use Rattle.std.specs.Prelude.{ℕ, ℤ, codes, List, [], ◌∷◌, ◌++◌, map, Option, Some, None}
 use Rattle.std.specs.List.{flat_map}
 use Rattle.mill_base.specs.declared.motion.Kind.{Kind}
-use Rattle.mill_base.specs.declared.motion.Kind.TheVariants.{Rapid, Feed}
+use Rattle.mill_base.specs.declared.motion.Kind.TheVariants.{Rapid, Feed, Dogleg}
 use Rattle.mill_base.specs.declared.motion.Move.{Move}
 use Rattle.mill_base.specs.declared.points.Pt3.{Pt3}
 use Rattle.mill_base.specs.declared.unit.Unit.{Unit}
@@ -10,10 +10,21 @@ use Rattle.mill_decimal.specs.Decimals.{canonical}
 
 -- ---- the line of a move
 
--- the word for a kind of move
+-- the word for a kind of move: a program doesn't tell a dogleg from a straight rapid
 abbrev pub motion_word : Kind → List ℕ
 motion_word Rapid = codes "G0"
 motion_word Feed = codes "G1"
+motion_word Dogleg = codes "G0"
+
+-- the kind that is read of what is written
+abbrev pub written_as : Kind → Kind
+written_as Rapid = Rapid
+written_as Feed = Feed
+written_as Dogleg = Rapid
+
+-- the move that is read of its line
+abbrev pub as_written : Move → Move
+as_written m = record { kind = written_as m.kind; from = m.from; to = m.to }
 
 -- a space, which is 32, the axis's letter, and the canonical decimal of the units
 abbrev pub axis_word : Unit → ℕ → ℤ → List ℕ

@@ -46,7 +46,7 @@ fn motion_word(kind: Kind) -> &'static [u8]
     ensures { result.now ≡ motion_word_of kind }
 {
     match kind {
-        Kind::Rapid => b"G0",
+        Kind::Rapid | Kind::Dogleg => b"G0",
         Kind::Feed => b"G1",
     }
 }

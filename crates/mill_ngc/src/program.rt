@@ -18,7 +18,8 @@ use std::alloc::Global;
 /// read as two moves of length 0 at that place.
 ///
 /// Where the moves follow on each other, from that place if there is one, are in the unit's range
-/// and with those two at most 1,000,000, the text reads back as exactly these moves.
+/// and with those two at most 1,000,000, the text reads back as exactly these moves, a dogleg as a
+/// straight rapid.
 pub fn write_program(
     alloc: Global,
     begin: Option<Pt3>,

@@ -1,25 +1,30 @@
 -- Moves that go safely pass all tests but the holder's against the stock, each after those before it; so none of them is rejected but for stock that is left, or that
 -- the holder would touch.
-use Rattle.std.specs.Prelude.{◌≡◌, ℕ, zero, suc, ◌<◌, ℤ, ◌≤ℤ◌, List, [], ◌∷◌, ◌++◌, length, take, Contains, Option, None, IfSome}
-use Rattle.std.proofs.Common.{inl, inr, refl, sym, ◌∙◌, subst, arith}
+use Rattle.std.specs.Prelude.{◌≡◌, ℕ, zero, suc, ◌<◌, ℤ, ◌≤ℤ◌, List, [], ◌∷◌, ◌++◌, length, map, take, Contains, Option, None, IfSome}
+use Rattle.std.proofs.Common.{ap, inl, inr, refl, sym, ◌∙◌, subst, arith}
 use Rattle.std.proofs.lemmas.List.{append_assoc, append-nil, get_or_default}
-use Rattle.mill_base.specs.Motion.{Follow}
+use Rattle.mill_base.specs.Motion.{Follow, bent}
 use Rattle.mill_base.specs.Ranges.{MoveInUnitRange, MovesInUnitRange}
 use Rattle.mill_base.specs.declared.motion.Kind.{Kind}
-use Rattle.mill_base.specs.declared.motion.Kind.TheVariants.{Rapid, Feed}
+use Rattle.mill_base.specs.declared.motion.Kind.TheVariants.{Rapid, Feed, Dogleg}
 use Rattle.mill_base.specs.declared.motion.Move.{Move}
 use Rattle.mill_base.specs.declared.points.Pt3.{Pt3}
 use Rattle.mill_base.specs.declared.points.Tri.{Tri}
 use Rattle.mill_base.specs.Solids.{Solid}
 use Rattle.mill_job.specs.Columns.{IsColumn, column_x, column_y}
+use Rattle.mill_job.specs.Habits.{made_by, run_by}
 use Rattle.mill_job.specs.Jobs.{IsJob, part_tool_of, tool_of}
 use Rattle.mill_job.specs.Solids.{held_with, outer_of, stock_solid_of}
 use Rattle.mill_job.specs.declared.fields.JobFields.{JobFields}
 use Rattle.mill_job.specs.declared.fixtures.Fixture.{Fixture as Box}
+use Rattle.mill_job.specs.declared.habits.Rapids.{Rapids}
+use Rattle.mill_job.specs.declared.habits.Rapids.TheVariants.{Straight, Axes}
 use Rattle.mill_gouge.specs.Gouges.{PassesPart, ToolPassesPart}
+use Rattle.mill_ngc.specs.Writing.{as_written}
 use Rattle.mill_sweep.specs.Solids.{SolidPassesPoint}
 use Rattle.mill_sweep.specs.declared.leaf.Leaf.{Leaf}
-use Rattle.mill_dexel.specs.Tops.{ClearsColumns, HolderClearsColumns, IsTested, tested_point, top_point, uncut}
+use Rattle.mill_dexel.specs.Tops.{ClearsColumns, HolderClearsColumns, IsTested, stock_after, tested_point, top_point, uncut}
+use Rattle.mill_dexel.proofs.TestedAs.{is_tested, point_as}
 use Rattle.mill_links.specs.Safety.{AreSafe, Connect, GoSafely, IsSafeMove}
 use Rattle.mill_obstacles.specs.Faces.{obstacles_of}
 use Rattle.mill_verify.specs.Fixtures.{FailsFixture, PassesFixture, PassesFixtures, ToolPassesFixtures, fixture_at}
@@ -54,11 +59,38 @@ module _ (job : JobFields) (part : List Tri) where
       subst (λ (before : List Move). IsSafeMove job part before (move_at ms k)) (append_assoc done (m ∷ []) (take k ms))
       (safe_at (done ++ m ∷ []) ms k safe.1 (omega arith))
 
+  joined : (a b : Move) (others rest : List Move) → a ≡ b → others ≡ rest → a ∷ others ≡ b ∷ rest
+  joined a b others rest e g = cc
+
+  -- safe moves are what the job's machine makes of their text
+  made_each : (done moves : List Move) → AreSafe job part done moves → moves ≡ map (λ (m : Move). made_by job.rapids (as_written m)) moves
+  made_each done [] safe = refl
+  made_each done (m ∷ moves) safe =
+      joined m (made_by job.rapids (as_written m)) moves (map (λ (n : Move). made_by job.rapids (as_written n)) moves) (sym safe.0.made) (made_each (done ++ m ∷ []) moves safe.1)
+
+  run_each : (rapids : Rapids) (moves : List Move) → map (λ (m : Move). made_by rapids (as_written m)) moves ≡ run_by rapids (map as_written moves)
+  run_each Straight [] = refl
+  run_each Straight (m ∷ moves) = ap (λ (ms : List Move). as_written m ∷ ms) (run_each Straight moves)
+  run_each Axes [] = refl
+  run_each Axes (m ∷ moves) = ap (λ (ms : List Move). bent (as_written m) ∷ ms) (run_each Axes moves)
+
+  pub read_made : (done moves : List Move) → AreSafe job part done moves → moves ≡ run_by job.rapids (map as_written moves)
+  read_made done moves safe = made_each done moves safe ∙ run_each job.rapids moves
+
   -- a safe move passes each column, if it is tested
   columns : (done : List Move) (m : Move) (kind : Kind) → m.kind ≡ kind → IsSafeMove job part done m → ClearsColumns job done m
   columns done m Rapid e safe =
       subst (λ (v : Kind). IsTested job v → (j i : ℕ) → IsColumn job j i → SolidPassesPoint (stock_solid_of job) m (tested_point job v done j i)) (sym e)
-      (λ tested j i column. safe.stock e (column_x job i) (column_y job j))
+      (λ tested j i column. safe.stock (λ feed. no_feed (sym e ∙ feed)) (column_x job i) (column_y job j))
+    where
+      no_feed : Rapid ≡ Feed → ⊥
+      no_feed h = cc
+  columns done m Dogleg e safe =
+      subst (λ (v : Kind). IsTested job v → (j i : ℕ) → IsColumn job j i → SolidPassesPoint (stock_solid_of job) m (tested_point job v done j i)) (sym e)
+      (λ tested j i column. safe.stock (λ feed. no_feed (sym e ∙ feed)) (column_x job i) (column_y job j))
+    where
+      no_feed : Dogleg ≡ Feed → ⊥
+      no_feed h = cc
   columns done m Feed e safe = safe.depth e
 
   -- without a holder there is no further test
@@ -122,8 +154,9 @@ module _ (job : JobFields) (part : List Tri) (moves : List Move) (all : AllPassF
   not_stopped : (kind : Kind) (k j i : ℕ) (leaf : Leaf) → FailsStock job part moves kind k j i leaf → ⊥
   not_stopped kind k j i leaf fails =
       let passes : SolidPassesPoint (stock_solid_of job) (move_at moves k) (tested_point job kind (take k moves) j i) =
-      subst (λ (v : Kind). IsTested job v → (a b : ℕ) → IsColumn job a b → SolidPassesPoint (stock_solid_of job) (move_at moves k) (tested_point job v (take k moves) a b)) fails.is
-      (all k fails.there).stock fails.tested j i fails.column in
+      subst (λ (v : Kind). SolidPassesPoint (stock_solid_of job) (move_at moves k) (tested_point job v (take k moves) j i)) fails.is
+      (subst (λ (p : Pt3). SolidPassesPoint (stock_solid_of job) (move_at moves k) p) (point_as job (move_at moves k).kind (stock_after job (uncut job) (take k moves)) j i)
+      ((all k fails.there).stock (is_tested job (move_at moves k).kind (subst (IsTested job) (sym fails.is) fails.tested)) j i fails.column)) in
       fails.fails.fails passes
 
   -- nor is its holder by a triangle

@@ -14,7 +14,7 @@ use Rattle.mill_job.specs.Columns.{home}
 use Rattle.mill_job.specs.Habits.{is_elsewhere}
 use Rattle.mill_job.specs.Jobs.{IsJob}
 use Rattle.mill_job.specs.declared.fields.JobFields.{JobFields}
-use Rattle.mill_links.specs.Links.{at_height, climb, cross, head, is_over_place, rapid_to, stay, way_home}
+use Rattle.mill_links.specs.Links.{across, at_height, climb, cross, head, is_over_place, rapid_to, stay, way_home}
 
 -- what stands past the old moves is what was added to them
 pub past_old : (old added new : List Move) (first : ℕ) → first ≡ length old → new ≡ old ++ added → take (length new - first) (drop first new) ≡ added
@@ -41,10 +41,10 @@ module _ (job : JobFields) (from : Pt3) (clear_ok : Within MAX_COORDINATE job.cl
   climbs true = one (rapid_to from (at_height from job.clear)) (record { from_ok = from_ok; to_ok = at_level from job.clear from_ok clear_ok })
   climbs false = none
 
-  crosses : (at : Pt3) → IsInRange at → (t : Bool) → MovesInRange (if t then [] else rapid_to (at_height from job.clear) (at_height at job.clear) ∷ [])
+  crosses : (at : Pt3) → IsInRange at → (t : Bool) → MovesInRange (if t then [] else across job from at ∷ [])
   crosses at at_ok true = none
   crosses at at_ok false =
-      one (rapid_to (at_height from job.clear) (at_height at job.clear))
+      one (across job from at)
       (record { from_ok = at_level from job.clear from_ok clear_ok; to_ok = at_level at job.clear at_ok clear_ok })
 
 pub way_home_ranged : (job : JobFields) (from : Pt3) → IsJob job → IsInRange from → IsInRange (home job) → MovesInRange (way_home job from)

@@ -9,6 +9,8 @@ use Rattle.mill_base.specs.Sizes.{outer, radius_of, with_radius}
 use Rattle.mill_base.specs.Solids.{Solid, higher, lifted}
 use Rattle.mill_base.specs.declared.cutter.Cutter.{Cutter}
 use Rattle.mill_base.specs.declared.cutter.Cutter.TheVariants.{Flat, Ball, Cone}
+use Rattle.mill_base.specs.declared.motion.Kind.{Kind}
+use Rattle.mill_base.specs.declared.motion.Kind.TheVariants.{Rapid, Feed, Dogleg}
 use Rattle.mill_base.specs.declared.motion.Move.{Move}
 use Rattle.mill_base.specs.declared.points.Pt3.{Pt3}
 use Rattle.mill_base.specs.declared.points.Tri.{Tri}
@@ -20,8 +22,10 @@ use Rattle.mill_job.specs.Solids.{outer_of, part_solid_of}
 use Rattle.mill_job.specs.declared.fields.JobFields.{JobFields}
 use Rattle.mill_margin.proofs.Nesting.{wider_inside}
 use Rattle.mill_margin.specs.Laws.{LiesIn}
-use Rattle.mill_sweep.specs.Halving.{Blocks, IsFree, LeafPasses, Passes}
+use Rattle.mill_sweep.specs.Apart.{LieApart}
+use Rattle.mill_sweep.specs.Halving.{Blocks, IsFree, LeafPasses}
 use Rattle.mill_sweep.specs.Leaves.{depth_of, outer_tip, reach_of, span_of}
+use Rattle.mill_sweep.specs.Passing.{BoxPasses, Passes, PassesBy}
 use Rattle.mill_sweep.specs.Solids.{SolidPasses}
 use Rattle.mill_sweep.specs.declared.leaf.Span.{Span}
 
@@ -35,6 +39,11 @@ as_low : (cutter : Cutter) (r : ℤ) (s : Span) → outer_tip (with_radius cutte
 as_low (Flat R) r s = refl
 as_low (Ball R) r s = refl
 as_low (Cone R a b) r s = refl
+
+radius_is : (cutter : Cutter) (r : ℤ) → radius_of (with_radius cutter r) ≡ r
+radius_is (Flat R) r = refl
+radius_is (Ball R) r = refl
+radius_is (Cone R a b) r = refl
 
 less_both : (r R q : ℤ) → r ≤ℤ R → (r +ℤ q) ≤ℤ (R +ℤ q)
 less_both r R q h = omega (h, arith, ints)
@@ -88,8 +97,35 @@ module _ (cutter : Cutter) (r : ℤ) (some : (pos 0) ≤ℤ r) (narrow : r ≤�
   leaf_narrower m tri (suc more) d k (inl free) = inl (free_narrower m tri d k free)
   leaf_narrower m tri (suc more) d k (inr both) = inr (leaf_narrower m tri more (d + 1) (2 * k) both.0, leaf_narrower m tri more (d + 1) (2 * k + 1) both.1)
 
+  -- what lies a radius away lies a lesser one away
+  apart_narrower : (f t a b c : ℤ) → LieApart (radius_of cutter) f t a b c → LieApart (radius_of (with_radius cutter r)) f t a b c
+  apart_narrower f t a b c (inl l) = inl (record { a_e = up f a l.a_e; b_e = up f b l.b_e; c_e = up f c l.c_e; a_f = up t a l.a_f; b_f = up t b l.b_f; c_f = up t c l.c_f })
+    where
+      up : (e x : ℤ) → (e +ℤ radius_of cutter) ≤ℤ x → (e +ℤ radius_of (with_radius cutter r)) ≤ℤ x
+      up e x h = rw (radius_is cutter r) (less (radius_of cutter) e x narrow h)
+        where
+          less : (R e x : ℤ) → r ≤ℤ R → (e +ℤ R) ≤ℤ x → (e +ℤ r) ≤ℤ x
+          less R e x n h = omega (n, h, arith, ints)
+  apart_narrower f t a b c (inr l) = inr (record { a_e = down f a l.a_e; b_e = down f b l.b_e; c_e = down f c l.c_e; a_f = down t a l.a_f; b_f = down t b l.b_f; c_f = down t c l.c_f })
+    where
+      down : (e x : ℤ) → (x +ℤ radius_of cutter) ≤ℤ e → (x +ℤ radius_of (with_radius cutter r)) ≤ℤ e
+      down e x h = rw (radius_is cutter r) (less (radius_of cutter) e x narrow h)
+        where
+          less : (R e x : ℤ) → r ≤ℤ R → (x +ℤ R) ≤ℤ e → (x +ℤ r) ≤ℤ e
+          less R e x n h = omega (n, h, arith, ints)
+
+  box_narrower : (m : Move) (tri : Tri) → BoxPasses cutter m tri → BoxPasses (with_radius cutter r) m tri
+  box_narrower m tri (inl low) = inl low
+  box_narrower m tri (inr (inl x)) = inr (inl (apart_narrower m.from.x m.to.x tri.a.x tri.b.x tri.c.x x))
+  box_narrower m tri (inr (inr y)) = inr (inr (apart_narrower m.from.y m.to.y tri.a.y tri.b.y tri.c.y y))
+
   passes_narrower : (m : Move) (tri : Tri) → Passes cutter m tri → Passes (with_radius cutter r) m tri
-  passes_narrower m tri passes = leaf_narrower m tri (depth_of m) 0 0 passes
+  passes_narrower m tri = by m.kind
+    where
+      by : (kind : Kind) → PassesBy kind cutter m tri → PassesBy kind (with_radius cutter r) m tri
+      by Rapid passes = leaf_narrower m tri (depth_of m) 0 0 passes
+      by Feed passes = leaf_narrower m tri (depth_of m) 0 0 passes
+      by Dogleg passes = box_narrower m tri passes
 
 module _ (inside outside : Solid) (lies : LiesIn inside outside) where
   -- the inner solid's tip is as much higher as its lift is greater

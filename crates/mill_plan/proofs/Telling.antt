@@ -1,5 +1,5 @@
 -- What the verdict on a plan's moves comes to.
-use Rattle.std.specs.Prelude.{◌≡◌, ℕ, Bool, false, ℤ, List, Ok}
+use Rattle.std.specs.Prelude.{◌≡◌, ℕ, Bool, false, ℤ, List, [], map, Ok}
 use Rattle.std.proofs.Common.{subst}
 use Rattle.mill_base.specs.declared.motion.Move.{Move}
 use Rattle.mill_base.specs.declared.points.Tri.{Tri}
@@ -8,6 +8,7 @@ use Rattle.mill_job.specs.Jobs.{IsJob}
 use Rattle.mill_job.specs.declared.fields.JobFields.{JobFields}
 use Rattle.mill_ngc.specs.Programs.{program_of}
 use Rattle.mill_ngc.specs.Readings.{ReadsAs}
+use Rattle.mill_ngc.specs.Writing.{as_written}
 use Rattle.mill_obstacles.specs.Faces.{obstacles_of}
 use Rattle.mill_sweep.specs.declared.leaf.Leaf.{Leaf}
 use Rattle.mill_verify.specs.Claims.{CutsSafely}
@@ -17,7 +18,7 @@ use Rattle.mill_verify.specs.declared.verdict.Reason.{Reason}
 use Rattle.mill_verify.specs.declared.verdict.Reason.TheVariants.{HolderStock, Left}
 use Rattle.mill_plan.specs.Plans.{HasPlan, IsDone, IsHeld, IsUncut, begin_of, plan_text}
 use Rattle.mill_plan.specs.inner.Conditions.{KeepsOffAll}
-use Rattle.mill_plan.proofs.Good.{follow, in_range, of_stock_only, only_of_stock, pass_first}
+use Rattle.mill_plan.proofs.Good.{follow, in_range, of_stock_only, only_of_stock, pass_first, read_made}
 use Rattle.mill_plan.proofs.Heading.{begins_elsewhere}
 use Rattle.mill_plan.proofs.Reach.{out_of_reach}
 
@@ -29,8 +30,9 @@ module _ (job : JobFields) (part : List Tri) (moves : List Move) (plan : HasPlan
     moves = moves;
     plan = plan;
     written = written;
-    reads = subst (λ (b : Bool). program_of (home job) job.unit (record { from_anywhere = b; needs_spindle = false }) text ≡ Ok moves) (begins_elsewhere job)
+    reads = subst (λ (b : Bool). program_of (home job) job.unit (record { from_anywhere = b; needs_spindle = false }) text ≡ Ok (map as_written moves)) (begins_elsewhere job)
         (reads (home job) (follow job (obstacles_of job part) (home job) (home job) moves go) (in_range job (obstacles_of job part) (home job) (home job) moves go) plan.few);
+    made = read_made job (obstacles_of job part) [] moves go.safe;
     in_range = in_range job (obstacles_of job part) (home job) (home job) moves go;
     accepted = accepted;
     safe = safe;

@@ -1,5 +1,5 @@
 -- What a planner can answer to a job and a part, and when each answer is right.
-use Rattle.std.specs.Prelude.{◌≡◌, ◌⊎◌, ℕ, ◌≤◌, ◌<◌, false, if◌then◌else◌, ℤ, pos, ◌+ℤ◌, ◌<ℤ◌, List, length, drop, All, Option, None, Some, Ok}
+use Rattle.std.specs.Prelude.{◌≡◌, ◌⊎◌, ℕ, ◌≤◌, ◌<◌, false, if◌then◌else◌, ℤ, pos, ◌+ℤ◌, ◌<ℤ◌, List, length, map, drop, All, Option, None, Some, Ok}
 use Rattle.mill_base.specs.declared.limits.TheConstants.{MAX_MOVES, MAX_NODES}
 use Rattle.mill_base.specs.Solids.{SolidHolds}
 use Rattle.mill_base.specs.Covers.{IsHighestCovered}
@@ -10,7 +10,7 @@ use Rattle.mill_base.specs.declared.points.Pt3.{Pt3}
 use Rattle.mill_base.specs.declared.points.Tri.{Tri}
 use Rattle.mill_base.specs.declared.motion.Move.{Move}
 use Rattle.mill_job.specs.Columns.{home, column_x, column_y}
-use Rattle.mill_job.specs.Habits.{is_elsewhere}
+use Rattle.mill_job.specs.Habits.{is_elsewhere, run_by}
 use Rattle.mill_job.specs.Solids.{inner_of}
 use Rattle.mill_job.specs.declared.fields.JobFields.{JobFields}
 use Rattle.mill_ngc.specs.Programs.{program_of}
@@ -22,7 +22,7 @@ use Rattle.mill_paths.specs.Limits.{HasManyNodes}
 use Rattle.mill_paths.specs.Plans.{ArePlanVisits, IsPlan}
 use Rattle.mill_paths.specs.Unique.{BeginsTour}
 use Rattle.mill_paths.specs.Visits.{AreFinishVisits, HaveManyFinishVisits, HaveManyLevelVisits, HaveManyRoughVisits}
-use Rattle.mill_ngc.specs.Writing.{program_text}
+use Rattle.mill_ngc.specs.Writing.{as_written, program_text}
 use Rattle.mill_verify.specs.Claims.{CutsSafely}
 use Rattle.mill_verify.specs.Verdicts.{IsVerdict}
 use Rattle.mill_verify.specs.declared.verdict.Verdict.TheVariants.{Accept, Reject}
@@ -111,12 +111,14 @@ plan_text job moves = program_text job.unit (begin_of job) (behind_head job move
 
 -- ---- the answers
 
--- the text is the plan's, and reads back in the job's unit as its moves, which are in its range, from the job's home or, where the job has it so, from elsewhere; the verdict on them is acceptance, with these numbers, and they cut safely
+-- the text is the plan's, and reads back in the job's unit, from the job's home or, where the job has it so, from elsewhere, as moves of which the job's machine makes the plan's, which are in its range;
+-- the verdict on them is acceptance, with these numbers, and they cut safely
 pub record IsDone (job : JobFields) (part : List Tri) (text : List ℕ) (count columns : ℕ) (left : ℤ) : Type 0 where
   pub moves : List Move
   pub plan : HasPlan job (obstacles_of job part) moves
   pub written : text ≡ plan_text job moves
-  pub reads : program_of (home job) job.unit (record { from_anywhere = is_elsewhere job.start; needs_spindle = false }) text ≡ Ok moves
+  pub reads : program_of (home job) job.unit (record { from_anywhere = is_elsewhere job.start; needs_spindle = false }) text ≡ Ok (map as_written moves)
+  pub made : moves ≡ run_by job.rapids (map as_written moves)
   pub in_range : MovesInUnitRange job.unit moves
   pub accepted : IsVerdict job part moves (Accept count columns left)
   pub safe : CutsSafely job part moves

@@ -27,11 +27,11 @@ use std::alloc::Global;
 
 /// Plans a program that cuts the job's part, and verifies it.
 ///
-/// The cutter starts at the job's home, comes to the visits of its roughing, then to those along the
-/// waterlines at its levels, each closed one round to its first point again, and then to those of its
-/// finishing path (`mill_paths`), each by its link (`mill_links`), and goes home. The text is that of
-/// `mill_ngc` in the job's unit; it reads back as these moves, which the verifier accepts, with the
-/// numbers that are told.
+/// The cutter starts at the job's home, comes to the visits of its roughing, then to those along
+/// the waterlines at its levels, each closed one round to its first point again, and then to those
+/// of its finishing path (`mill_paths`), each by its link (`mill_links`), and goes home. The text
+/// is that of `mill_ngc` in the job's unit; it reads back as these moves, as the job's machine
+/// makes them, which the verifier accepts, with the numbers that are told.
 ///
 /// Where the job has fixtures, the tool keeps off them as off the part: their upper faces stand
 /// behind its triangles (`mill_obstacles`) for drop heights, waterlines and straight feeds. They

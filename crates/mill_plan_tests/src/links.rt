@@ -76,6 +76,7 @@ fn told_move(alloc: Global, step: &Move) -> Result<String, Fail> {
     let kind = match step.kind {
         Kind::Rapid => "rapid",
         Kind::Feed => "feed",
+        Kind::Dogleg => "dogleg",
     };
     let Move { kind: _, from, to } = step;
     Ok(format!(in alloc;
@@ -127,6 +128,8 @@ fn look<R: Abort + AllocGlobal>(rt: &R, row: &str) -> Result<(), Fail> {
 // With a depth of cut the cutter goes down by pecks. Straight to the first visit of the last but one, which is near,
 // it would cut 200 deep, and so it goes round; the stock is lowered there then, and to the second visit, 50 under the
 // first, it may feed straight. From home the way home is nowhere.
+//
+// Where the axes run apart, the way across is a dogleg along x and y, and a rapid along x alone.
 const WAYS: &str = "\
 post | -300 0 500: -200 0 200 by 100; -200 0 200 by 100 => \
     feed -300 0 500 to -200 0 200, tops [400, 400, 400, 400, 400, 400, 400]
@@ -157,7 +160,13 @@ post max_cut = 50 | -300 0 500: -200 0 200 by 100; -200 0 150 by 100 => \
     feed -200 0 200 to -200 0 150, tops [400, 150, 400, 400, 400, 400, 400]
 post | 200 100 200: home; home => \
     rapid 200 100 200 to 200 100 500, rapid 200 100 500 to -300 0 500, \
-    tops [400, 400, 400, 400, 400, 400, 400]";
+    tops [400, 400, 400, 400, 400, 400, 400]
+post rapids = 'axes' | 200 100 200: home; home => \
+    rapid 200 100 200 to 200 100 500, dogleg 200 100 500 to -300 0 500, \
+    tops [400, 400, 400, 400, 400, 400, 400]
+post rapids = 'axes' | -200 0 200: 200 0 200 by 200 => \
+    rapid -200 0 200 to -200 0 500, rapid -200 0 500 to 200 0 500, rapid 200 0 500 to 200 0 400, \
+    feed 200 0 400 to 200 0 200, tops [400, 400, 400, 400, 400, 400, 400]";
 
 #[test]
 fn goes_from_visit_to_visit_and_home(rt: HostRuntime) -> Result<(), Fail> {

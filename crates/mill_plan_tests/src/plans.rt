@@ -15,8 +15,8 @@ use std::process::Abort;
 use std::test::Fail;
 use std::thread::Threads;
 
-/// What a plan is: the numbers of its moves and of the job's columns, the most that it leaves, and its program;
-/// or why there is none.
+/// What a plan is: the numbers of its moves and of the job's columns, the most that it leaves, and
+/// its program; or why there is none.
 fn told_plan(alloc: Global, planned: Result<Planned, PlanFault>) -> Result<String, Fail> {
     match planned {
         Ok(planned) => told_planned(alloc, &planned),
@@ -79,7 +79,7 @@ fn look<R: Threads + Sync + AllocGlobal + Abort>(rt: &R, row: &str) -> Result<()
 // The shallow block: nine feeds and two rapids home. With a depth of cut the cutter goes down by pecks, and goes round
 // to the first node and to the three others at which it reaches columns that aren't cut yet. Layers as deep as that
 // need no way round, and layers twice as deep need the four on each of them. With a tolerance the cutter comes to both
-// ends of each of the three rows alone.
+// ends of each of the three rows alone. Where the axes run apart on a rapid the text is the same.
 //
 // With a holder: at the first node its face is the stickout over the plate, and the stock 100 over it. Where the
 // cutter goes down by pecks of 50, and round to each column that it hasn't cut yet, 50 is enough.
@@ -102,6 +102,7 @@ shallow layer = 50; max_cut = 50 | plate => 29 moves, 9 columns, 0 left: %\nG17 
 shallow layer = 50; max_cut = 25 | plate => 68 moves, 9 columns, 0 left: %\nG17 G21 G90\nG0 X0.00 Y0.00 Z4.00\nG0 X0.00 Y0.00 Z3.00\nG1 X0.00 Y0.00 Z2.75\nG1 X0.00 Y0.00 Z2.50\n .. M2\n%\n
 shallow layer = 50 | plate => 29 moves, 9 columns, 0 left: %\n .. M2\n%\n
 shallow path_tol = 0 | plate => 8 moves, 9 columns, 0 left: %\nG17 G21 G90\nG1 X0.00 Y0.00 Z2.00\nG1 X2.00 Y0.00 Z2.00\nG1 X2.00 Y1.00 Z2.00\nG1 X0.00 Y1.00 Z2.00\nG1 X0.00 Y2.00 Z2.00\nG1 X2.00 Y2.00 Z2.00\nG0 X2.00 Y2.00 Z4.00\nG0 X1.00 Y1.00 Z4.00\nM2\n%\n
+shallow path_tol = 0; rapids = 'axes' | plate => 8 moves, 9 columns, 0 left: %\nG17 G21 G90\nG1 X0.00 Y0.00 Z2.00\nG1 X2.00 Y0.00 Z2.00\nG1 X2.00 Y1.00 Z2.00\nG1 X0.00 Y1.00 Z2.00\nG1 X0.00 Y2.00 Z2.00\nG1 X2.00 Y2.00 Z2.00\nG0 X2.00 Y2.00 Z4.00\nG0 X1.00 Y1.00 Z4.00\nM2\n%\n
 shallow holder_radius = 190; stickout = 50 | plate => Held { at: 0, row: 0, col: 0 }
 shallow holder_radius = 190; stickout = 99 | plate => Held { at: 0, row: 0, col: 0 }
 shallow max_cut = 50; holder_radius = 190; stickout = 49 | plate => Held { at: 2, row: 0, col: 0 }

@@ -163,3 +163,14 @@ fn writes_way_alone(rt: HostRuntime) -> Result<(), Fail> {
     assert_eq!(&rt; again.as_slice(), all.as_slice());
     Ok(())
 }
+
+// A rapid on which each axis runs at a speed of its own is written as any other, and read as one.
+#[test]
+fn writes_a_dogleg_as_a_rapid(rt: HostRuntime) -> Result<(), Fail> {
+    let straight = rapid(HOME, point(200, 200, 400));
+    let bent = straight.bent();
+    assert_eq!(rt; bent.kind, Kind::Dogleg);
+    let text: &[u8] = b"%\nG17 G21 G90\nG0 X2.00 Y2.00 Z4.00\nM2\n%\n";
+    is_written(&rt, rt.alloc(), None, &[bent], Unit::Hundredth, text)?;
+    is_read_back(&rt, rt.alloc(), text, HOME, Unit::Hundredth, &[straight])
+}

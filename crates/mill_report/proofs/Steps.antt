@@ -1,14 +1,16 @@
 -- One move's tests, part by part: why it fails, and that it names a leaf that is blocked.
 use Rattle.std.specs.Prelude.{◌≡◌, ℕ, ◌≤◌, List, [], ◌∷◌, Some, refl}
-use Rattle.std.proofs.Common.{arith, inl, inr}
+use Rattle.std.proofs.Common.{arith, inl, inr, subst}
 use Rattle.mill_base.specs.Points.{point_tri, tri_at}
 use Rattle.mill_base.specs.declared.limits.TheConstants.{MAX_LAST_REACH}
+use Rattle.mill_base.specs.Motion.{IsStraight}
 use Rattle.mill_base.specs.Ranges.{MoveInRange}
 use Rattle.mill_base.specs.Solids.{IsSolid, Solid}
+use Rattle.mill_base.specs.declared.points.Pt3.{Pt3}
 use Rattle.mill_base.specs.declared.points.Tri.{Tri}
 use Rattle.mill_base.specs.declared.motion.Move.{Move}
 use Rattle.mill_base.specs.declared.motion.Kind.{Kind}
-use Rattle.mill_base.specs.declared.motion.Kind.TheVariants.{Rapid, Feed}
+use Rattle.mill_base.specs.declared.motion.Kind.TheVariants.{Rapid, Feed, Dogleg}
 use Rattle.mill_gouge.specs.Gouges.{IsFirstGouge, PassesPart}
 use Rattle.mill_gouge.specs.declared.gouge.Gouge.{Gouge as OneGouge}
 use Rattle.mill_sweep.specs.Leaves.{reach_of}
@@ -20,7 +22,8 @@ use Rattle.mill_job.specs.Jobs.{IsJob}
 use Rattle.mill_job.specs.declared.fixtures.Fixture.{Fixture as Stands}
 use Rattle.mill_job.specs.Solids.{holder_solid_of, outer_of, part_solid_of, stock_solid_of}
 use Rattle.mill_job.proofs.SolidFacts.{holder_solid_ok, outer_ok, part_solid_ok, stock_solid_ok}
-use Rattle.mill_dexel.specs.Tops.{Stock, tested_point_on, top_point_on}
+use Rattle.mill_dexel.specs.Tops.{Stock, tested_as, tested_point_on, top_point_on}
+use Rattle.mill_dexel.proofs.TestedAs.{is_tested_as, point_as}
 use Rattle.mill_dexel.specs.declared.fail.RowTest.{RowTest}
 use Rattle.mill_dexel.specs.declared.fail.RowTest.TheVariants as test
 use Rattle.mill_verify.specs.Clashes.{IsClash, IsClear, IsFixtureClash, IsHolderFixtureClash}
@@ -82,7 +85,7 @@ module _ (failing_is_blocked : FailingIsBlocked) (job : JobFields) (m : Move) (j
   -- ---- the tests against the fixtures
 
   -- whichever triangle of a fixture the test fails at
-  last_of : (solid : Solid) → IsSolid solid → (box : Stands) (leaf : Leaf) → FailsFixture solid m box leaf → reach_of m leaf.d leaf.k ≤ MAX_LAST_REACH
+  last_of : (solid : Solid) → IsSolid solid → (box : Stands) (leaf : Leaf) → FailsFixture solid m box leaf → IsStraight m → reach_of m leaf.d leaf.k ≤ MAX_LAST_REACH
   last_of solid ok box leaf fails = elim fails [
     | inl first ↦ (failing_is_blocked solid m (first_half box) leaf ok range first).0
     | inr second ↦ (failing_is_blocked solid m (second_half box) leaf ok range second.1).0
@@ -154,7 +157,7 @@ module _ (failing_is_blocked : FailingIsBlocked) (job : JobFields) (m : Move) (j
     pub passes_all : PassesStock job stock m → IsGoodOn job part stock (m ∷ []) 0
     passes_all passes = record { floor = over; clears = clear.passes_part.cutter; holder = clear.passes_part.holder; fixtures = clear.passes_fixtures.cutter; holder_fixtures = clear.passes_fixtures.holder; stock = passes.cut; holder_stock = passes.holder }
 
-    cut_fails : (stop : Stop) → IsCutStop job stock m stop → FailsStockOn job part stock (m ∷ []) m.kind 0 stop.row stop.col stop.leaf
+    cut_fails : (stop : Stop) → IsCutStop job stock m stop → FailsStockOn job part stock (m ∷ []) (tested_as m.kind) 0 stop.row stop.col stop.leaf
     cut_fails stop h = record {
       there = omega arith;
       before = λ e less. absurd (omega (less, arith));
@@ -164,10 +167,10 @@ module _ (failing_is_blocked : FailingIsBlocked) (job : JobFields) (m : Move) (j
       fixtures = clear.passes_fixtures.cutter;
       holder_fixtures = clear.passes_fixtures.holder;
       is = refl;
-      tested = h.tested;
+      tested = is_tested_as job m.kind h.tested;
       column = h.at.column;
       first = h.at.first;
-      fails = h.at.fails;
+      fails = subst (λ (p : Pt3). SolidFailsAt (stock_solid_of job) m (point_tri p) stop.leaf) (point_as job m.kind stock stop.row stop.col) h.at.fails;
     }
 
     held_fails : (stop : Stop) → IsHolderStop job stock m stop → FailsHolderStockOn job part stock (m ∷ []) 0 stop.row stop.col stop.leaf
@@ -187,13 +190,17 @@ module _ (failing_is_blocked : FailingIsBlocked) (job : JobFields) (m : Move) (j
       fails = h.at.fails;
     }
 
-    by_kind : (kind : Kind) (stop : Stop) → FailsStockOn job part stock (m ∷ []) kind 0 stop.row stop.col stop.leaf
-        → BlocksLeaf (stock_solid_of job) m stop.leaf (point_tri (tested_point_on job kind stock stop.row stop.col)) → FailsMove job part stock m number (cut_reason kind number stop.row stop.col stop.leaf)
+    by_kind : (kind : Kind) (stop : Stop) → FailsStockOn job part stock (m ∷ []) (tested_as kind) 0 stop.row stop.col stop.leaf
+        → BlocksLeaf (stock_solid_of job) m stop.leaf (point_tri (tested_point_on job (tested_as kind) stock stop.row stop.col)) → FailsMove job part stock m number (cut_reason kind number stop.row stop.col stop.leaf)
     by_kind Rapid stop h names = record { at = refl; fails = record { of_move = tt; rejects = h }; names = names }
     by_kind Feed stop h names = record { at = refl; fails = record { of_move = tt; rejects = h }; names = names }
+    by_kind Dogleg stop h names = record { at = refl; fails = record { of_move = tt; rejects = h }; names = names }
 
     by_test : (t : RowTest) (stop : Stop) → StopsBy t job stock m stop → FailsMove job part stock m number (stock_reason t m.kind number stop.row stop.col stop.leaf)
-    by_test test.Cut stop h = by_kind m.kind stop (cut_fails stop h) (leaf_named (stock_solid_of job) (stock_solid_ok job job_ok) stop.leaf (point_tri (tested_point_on job m.kind stock stop.row stop.col)) h.at.fails h.at.blocked)
+    by_test test.Cut stop h =
+        by_kind m.kind stop (cut_fails stop h)
+        (subst (λ (p : Pt3). BlocksLeaf (stock_solid_of job) m stop.leaf (point_tri p)) (point_as job m.kind stock stop.row stop.col)
+        (leaf_named (stock_solid_of job) (stock_solid_ok job job_ok) stop.leaf (point_tri (tested_point_on job m.kind stock stop.row stop.col)) h.at.fails h.at.blocked))
     by_test test.Holder stop h = record {
       at = refl;
       fails = record { of_move = tt; rejects = held_fails stop h };

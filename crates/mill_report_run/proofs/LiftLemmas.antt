@@ -19,7 +19,7 @@ use Rattle.mill_report.specs.Findings.{move_of}
 use Rattle.mill_report_run.specs.Reports.{IsLift, IsLiftOf}
 use Rattle.mill_report_run.specs.inner.Lifts.{lifted_move}
 use Rattle.mill_sweep.specs.Leaves.{length_z}
-use Rattle.mill_sweep.specs.Reach.{low_end_of}
+use Rattle.mill_sweep.specs.Apart.{low_end_of}
 use Rattle.mill_verify.specs.declared.verdict.Reason.{Reason}
 use Rattle.mill_verify.specs.declared.verdict.Reason.TheVariants.{Floor, Gouge, Holder, Fixture, HolderFixture, Rapid, Cut, HolderStock, Left}
 

@@ -1,12 +1,11 @@
 //! The items of all moves that fail.
-ghost use Rattle.std.specs.Prelude.{◌≡◌, All, IfOk, List, Ok, false, length, map};
+ghost use Rattle.std.specs.Prelude.{◌≡◌, All, IfOk, List, false, length, map};
 ghost use Rattle.mill_base.specs.declared.motion.Move.{Move as OneMove};
 ghost use Rattle.mill_job.specs.Columns.{home};
 ghost use Rattle.mill_load.specs.Loads.{AreMoves};
 ghost use Rattle.mill_load.specs.Programs.{IsProgramText, rules_of};
 ghost use Rattle.mill_load.specs.Setup.{Fits};
 ghost use Rattle.mill_ngc.specs.Lines.{ArePlaces};
-ghost use Rattle.mill_ngc.specs.Programs.{program_of};
 ghost use Rattle.mill_report.specs.Findings.{AreFindings};
 ghost use Rattle.mill_report_run.specs.inner.Sources.{texts_of_sources};
 ghost use Rattle.mill_report_run.specs.Reports.{AreFailing, AreItems};
@@ -90,8 +89,7 @@ fn places_of(alloc: Global, sources: &Sources, job: &Job) -> Result<Vec<LineSpan
         ArePlaces (home job.now.fields) job.now.fields.unit (rules_of job.now.fields)
         sources.now.program places.items) }
     ensures all { IfOk result (λ places. (moves : List OneMove)
-        → program_of (home job.now.fields) job.now.fields.unit (rules_of job.now.fields)
-        sources.now.program ≡ Ok moves
+        → IsProgramText job.now.fields sources.now.program moves
         → length places.items ≡ length moves) }
 {
     places(

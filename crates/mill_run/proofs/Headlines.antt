@@ -1,6 +1,6 @@
 -- What status 0 and status 3 mean.
 use Rattle.std.proofs.Common.{◌≡◌, ◌≢◌, ℕ, false, List, Option, refl, sym, ap, subst, ◌∙◌, arith}
-use Rattle.std.specs.Prelude.{ℤ, ◌≤ℤ◌, All, Ok}
+use Rattle.std.specs.Prelude.{ℤ, ◌≤ℤ◌, All, map, Ok}
 use Rattle.std.proofs.lemmas.Int.{ints}
 use Rattle.std.proofs.lemmas.List.Elements.{All-weaker}
 use Rattle.mill_command.specs.Requests.{verify, plan, stock, rest}
@@ -31,10 +31,13 @@ use Rattle.mill_run.specs.Stock.{stock_texts, stock_line, drawn, too_many_triang
 use Rattle.mill_run.specs.Words.{PlanFiles, StockFiles, RestFiles}
 use Rattle.mill_run.proofs.Answering.{is_judged, is_judged_in_turn}
 use Rattle.mill_answer.proofs.Counts.{no, on}
+use Rattle.mill_ngc.specs.Pieces.{FollowOn}
 use Rattle.mill_ngc.specs.Programs.{program_of}
+use Rattle.mill_ngc.specs.Writing.{as_written}
 use Rattle.mill_ngc.proofs.Follows.{text_follows}
 use Rattle.mill_load.specs.Programs.{rules_of}
 use Rattle.mill_load.proofs.Asked.{asks_start}
+use Rattle.mill_load.proofs.Bending.{run_follow}
 use Rattle.mill_run.proofs.Lengths.{plan_fits}
 use Rattle.mill_run.proofs.Outcomes.{answered_by, answers_of}
 
@@ -123,7 +126,10 @@ done_safely : StartIsSafe → (call : Call) (files : PlanFiles) (job : JobFields
     → IsDone job part text count columns left → IsStored files.out text call.store call.store_after → IsWritten (plan_line job.unit (done text count columns left)) call.sink call.sink_after
     → StoresSafely call files
 done_safely law call files job part text count columns left plans job_ok under still d stored printed =
-    let reads : program_of (home job) job.unit (rules_of job) text ≡ Ok d.moves = rw (asks_start job still) d.reads in record {
+    let reads : program_of (home job) job.unit (rules_of job) text ≡ Ok (map as_written d.moves) = rw (asks_start job still) d.reads in
+    let follow : FollowOn (home job) (rules_of job) d.moves =
+    subst (FollowOn (home job) (rules_of job)) (sym d.made)
+    (run_follow job.rapids (home job) (rules_of job) (map as_written d.moves) (text_follows (home job) job.unit (rules_of job) text (map as_written d.moves) reads)) in record {
       job = job;
       part = part;
       moves = d.moves;
@@ -134,10 +140,10 @@ done_safely law call files job part text count columns left plans job_ok under s
       accepted = λ contents held. record {
         all_read = record {
           setup_is = (plans contents held).setup_is;
-          moves_are = record { fits = plan_fits job d.moves text job_ok d.in_range d.plan.few d.written; reads = reads };
+          moves_are = record { fits = plan_fits job d.moves text job_ok d.in_range d.plan.few d.written; read = map as_written d.moves; reads = reads; made = d.made };
         };
         job_ok = job_ok;
-        moves_ok = record { in_range = d.in_range; follow = text_follows (home job) job.unit (rules_of job) text d.moves reads; few = d.plan.few };
+        moves_ok = record { in_range = d.in_range; follow = follow; few = d.plan.few };
         is = subst (λ (n : ℕ). IsVerdict job part d.moves (Accept n columns left)) d.accepted.all_moves d.accepted;
         safe = d.safe;
         named = tt;

@@ -7,7 +7,7 @@ use Rattle.std.proofs.lemmas.List.{take-append-drop}
 use Rattle.std.proofs.lemmas.List.Elements.{Contains-append_right}
 use Rattle.mill_base.specs.Ranges.{IsInUnitRange, MoveInUnitRange, MovesInUnitRange}
 use Rattle.mill_base.specs.declared.motion.Kind.{Kind}
-use Rattle.mill_base.specs.declared.motion.Kind.TheVariants.{Rapid, Feed}
+use Rattle.mill_base.specs.declared.motion.Kind.TheVariants.{Rapid, Feed, Dogleg}
 use Rattle.mill_base.specs.declared.motion.Move.{Move}
 use Rattle.mill_base.specs.declared.points.Pt3.{Pt3}
 use Rattle.mill_base.specs.declared.unit.Unit.{Unit as LengthUnit}
@@ -26,6 +26,7 @@ use Rattle.mill_load.specs.Setup.{Fits}
 length-motion : (kind : Kind) → length (motion_word kind) ≤ 2
 length-motion Rapid = omega arith
 length-motion Feed = omega arith
+length-motion Dogleg = omega arith
 
 length-move : (unit : LengthUnit) (m : Move) → IsInUnitRange unit m.to → length (move_line unit m) ≤ 32
 unfolding move_line

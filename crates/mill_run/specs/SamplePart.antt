@@ -7,6 +7,7 @@ use Rattle.mill_base.specs.declared.points.Tri.{Tri}
 use Rattle.mill_base.specs.declared.unit.Unit.TheVariants.{Hundredth}
 use Rattle.mill_decimal.specs.declared.snap.Snap.TheVariants.{Nearest}
 use Rattle.mill_job.specs.declared.fields.JobFields.{JobFields}
+use Rattle.mill_job.specs.declared.habits.Rapids.TheVariants.{Straight}
 use Rattle.mill_job.specs.declared.habits.Start.TheVariants.{Home}
 use Rattle.mill_base.specs.Covers.{IsUnder}
 
@@ -61,6 +62,7 @@ sample_job n = record {
   overcut = pos 0;
   graze = None;
   keep_out = [];
+  rapids = Straight;
   start = Home;
   spindle = false;
 }

@@ -9,7 +9,7 @@ ghost use Rattle.mill_ngc.specs.Programs.{program_of};
 ghost use Rattle.mill_plan.specs.Plans.{IsPlanAnswer, answer_of, done};
 ghost use Rattle.mill_answer.specs.Calls.{call_of};
 ghost use Rattle.mill_load.specs.Loads.{AreMoves};
-ghost use Rattle.mill_load.specs.Programs.{rules_of};
+ghost use Rattle.mill_load.specs.Programs.{SaysMoves, rules_of};
 ghost use Rattle.mill_run.specs.inner.Loads.{AreWorkers};
 ghost use Rattle.mill_run.specs.SamplePart.{IsSample, IsSize};
 ghost use Rattle.mill_run.specs.Outcomes.{Serves};
@@ -143,9 +143,7 @@ fn read_back(alloc: Global, job: &Job, program: &[u8]) -> Result<Vec<Move>, Want
     requires { (moves : List OneMove)
         × (program_of (home job.now.fields) job.now.fields.unit (rules_of job.now.fields)
         program.now ≡ Ok moves) }
-    ensures told { IfOk result (λ moves.
-        program_of (home job.now.fields) job.now.fields.unit (rules_of job.now.fields)
-        program.now ≡ Ok moves.items) }
+    ensures told { IfOk result (λ moves. SaysMoves job.now.fields program.now moves.items) }
     ensures ready { IfOk result (λ moves. AreMoves job.now.fields moves.items) }
 {
     match read_moves(alloc, program, job) {

@@ -4,7 +4,7 @@ ghost use Rattle.mill_run.specs.SamplePart.{IsSample, IsSize, sample_job as job_
 
 use mill_base::{Box2, Cutter, Pt3, Tri, Unit, WantOfMemory};
 use mill_decimal::Snap;
-use mill_job::{Fixtures, Job, JobFields, Levels, Place, Start};
+use mill_job::{Fixtures, Job, JobFields, Levels, Place, Rapids, Start};
 use mill_load::Setup;
 use mill_part::Part;
 use std::alloc::Global;
@@ -69,6 +69,7 @@ fn sample_fields(size: u32) -> JobFields
         overcut: 0,
         graze: None,
         keep_out: Fixtures::NONE,
+        rapids: Rapids::Straight,
         start: Start::Home,
         spindle: false,
     }

@@ -260,6 +260,7 @@ before
 /// mm high. `narrow` ends 0.50 before the last columns. A `held` and a `slim` job have a holder, as
 /// far over the tip as their name says. A `plate-ball` is `job` with a ball, which may leave as
 /// much as its name says. `turning` asks for a spindle, and the programs of `loose` start anywhere.
+/// On a rapid of `axes` each axis runs at a speed of its own.
 /// Something stands beside the plate of `clamped`, in the middle of `vice`, and at two places of
 /// `boxed`.
 const MADE: &str = r#"thousandths: job: cutter -> unit = "thousandth"\ncutter; 00 -> 000; 50 -> 500
@@ -286,6 +287,7 @@ slim-99: job: 150 -> 60; [0, 0, 200 -> [0, 0, 300; pitch = 100 -> pitch = 50; al
 slim-100: job: 150 -> 60; [0, 0, 200 -> [0, 0, 300; pitch = 100 -> pitch = 50; allowance = 0 -> allowance = 200; band = 0 -> band = 0\nlayer = 100\nholder_radius = 120\nstickout = 100
 turning: job: band = 0 -> band = 0\nspindle = true
 loose: job: band = 0 -> band = 0\nstart = "anywhere"
+axes: job: band = 0 -> band = 0\nrapids = "axes"
 loose-planned: planned: G90 -> G90\nG0 Z4.00\nG0 X1.00 Y1.00
 clamped: job: band = 0 -> band = 0\nkeep_out = [[340, -100, 500, 100, 350]]
 clamped-planned: planned: Z2.00\nG1 X2.00 Y0.00 Z2.00\nG1 X2.00 Y1.00 Z2.00\n -> Z2.00\n

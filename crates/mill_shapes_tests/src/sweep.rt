@@ -1,11 +1,11 @@
 ghost use Rattle.mill_base.specs.Ranges.{IsInRange, MoveInRange, TriInRange};
 
 use crate::tables::leaf;
-use mill_base::{Box2, Cutter, LOWEST_LIFT, MAX_COORDINATE, Move, Pt3, Solid, Tri};
+use mill_base::{Box2, Cutter, Kind, LOWEST_LIFT, MAX_COORDINATE, Move, Pt3, Solid, Tri};
 use mill_sweep::{
     Leaf, Sweep, first_block, first_block_point, passes_point, passes_tri, reach_box,
 };
-use mill_tables::{cutter, feed, halves, number, point, triangle};
+use mill_tables::{cutter, feed, halves, number, point, step, triangle};
 use std::process::Abort;
 use std::test::Fail;
 
@@ -63,23 +63,29 @@ fn solid(text: &str) -> Result<Solid, Fail> {
     Ok(Solid::new(cutter(shape)?, lift))
 }
 
-fn look<R: Abort>(rt: &R, row: &str) -> Result<(), Fail> {
+fn look<R: Abort>(rt: &R, kind: Kind, row: &str) -> Result<(), Fail> {
     let (text, wanted) = halves(row)?;
     let (held, text) = text.split_once(" from ").ok_or("a row without a move")?;
     let (along, corners) = text.split_once(": ").ok_or("a row without a triangle")?;
-    let found = stops(solid(held)?, &feed(along)?, corners)?;
+    let found = stops(solid(held)?, &step(kind, along)?, corners)?;
     let leaf = leaf(wanted)?;
     let wanted = (leaf, leaf, leaf.is_none());
     assert_eq!(rt; found, (wanted, wanted), "{row}");
     Ok(())
 }
 
-/// Looks at many moves: each row has the solid, the move, a triangle or a point, and where that stops it.
-fn each_move<R: Abort>(rt: &R, table: &str) -> Result<(), Fail> {
+/// Looks at many moves of a kind: each row has the solid, the move, a triangle or a point, and where that
+/// stops it.
+fn each_of<R: Abort>(rt: &R, kind: Kind, table: &str) -> Result<(), Fail> {
     for row in table.lines() {
-        look(rt, row)?;
+        look(rt, kind, row)?;
     }
     Ok(())
+}
+
+/// Looks at many feeds.
+fn each_move<R: Abort>(rt: &R, table: &str) -> Result<(), Fail> {
+    each_of(rt, Kind::Feed, table)
 }
 
 // A flat that plunges onto a plate, or as near beside it as its radius lets it.
@@ -135,6 +141,33 @@ flat 10000 over 524287 from 0 0 524287 to 524287 0 524287: \
 #[test]
 fn lifted_solids_stop_beside_and_under(rt: HostRuntime) -> Result<(), Fail> {
     each_move(&rt, LIFTED)
+}
+
+// A dogleg may be anywhere in the box of its two ends, and as low as the lower one. A straight move
+// from one end to the other is far from the first point. Beside the box the radius counts along
+// each axis, whatever the shape, also at a corner; and the lower end is that of the solid.
+const DOGLEGS: &str = "\
+flat 100 from 0 0 200 to 1000 500 300: 900 100 201 => 0 0
+flat 100 from 0 0 200 to 1000 500 300: 900 100 200 => none
+flat 100 from 1000 500 300 to 0 0 200: 900 100 201 => 0 0
+flat 100 from 0 0 200 to 1000 500 300: 1100 100 300 => none
+flat 100 from 0 0 200 to 1000 500 300: 1099 100 300 => 0 0
+flat 100 from 0 0 200 to 1000 500 300: 500 -100 300 => none
+flat 100 from 0 0 200 to 1000 500 300: 500 -99 300 => 0 0
+flat 100 from 0 0 200 to 1000 500 300: 1099 599 300 => 0 0
+ball 100 from 0 0 200 to 1000 500 300: 1099 100 201 => 0 0
+flat 100 over 50 from 0 0 200 to 1000 500 300: 500 250 250 => none
+flat 100 over 50 from 0 0 200 to 1000 500 300: 500 250 251 => 0 0
+flat 100 from 0 0 200 to 1000 500 300: 1100 0 300, 1200 0 300, 1100 500 300 => none
+flat 100 from 0 0 200 to 1000 500 300: 1099 0 300, 1200 0 300, 1100 500 300 => 0 0";
+
+#[test]
+fn doglegs_stop_at_what_is_near_their_box(rt: HostRuntime) -> Result<(), Fail> {
+    each_of(&rt, Kind::Dogleg, DOGLEGS)?;
+    each_move(
+        &rt,
+        "flat 100 from 0 0 200 to 1000 500 300: 900 100 201 => none",
+    )
 }
 
 // The ends' box, wider by the radius and 2, and the lower end of the solid's way; no further out than

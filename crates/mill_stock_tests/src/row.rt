@@ -38,7 +38,7 @@ fn stop(job: &Job, row: &Row, word: &str, ends: &str) -> Result<Option<(u32, Lea
 {
     let along = step(kind(word), ends)?;
     match word {
-        "rapid" => Ok(row.rapid_turn(job, &along)),
+        "rapid" | "dogleg" => Ok(row.rapid_turn(job, &along)),
         "feed" => Ok(row.cut_test(job, &along)),
         "hold" => Ok(row.holder_test(job, &along)),
         _ => Err(Fail::from("no such act")),
@@ -96,8 +96,8 @@ fn run(alloc: Global, job: &Job, row: &mut Row, program: &str) -> Result<String,
     Ok(told)
 }
 
-/// Does one act on a row: a cut, which tells the tops then; a program; taking it again, before the first move; or a
-/// test, which tells the column that fails.
+/// Does one act on a row: a cut by a feed or by a dogleg, which tells the tops then; a program;
+/// taking it again, before the first move; or a test, which tells the column that fails.
 fn act(alloc: Global, job: &Job, row: &mut Row, text: &str) -> Result<String, Fail>
     requires row { IsRowOf job.now.fields row.old }
     ensures { IsRowOf job.now.fields row.new }
@@ -106,6 +106,10 @@ fn act(alloc: Global, job: &Job, row: &mut Row, text: &str) -> Result<String, Fa
     match word {
         "cut" => {
             row.cut_turn(job, &step(Kind::Feed, rest)?);
+            told_tops(alloc, row.tops())
+        }
+        "bend" => {
+            row.cut_turn(job, &step(Kind::Dogleg, rest)?);
             told_tops(alloc, row.tops())
         }
         "run" => run(alloc, job, row, rest),
@@ -209,6 +213,21 @@ long cutter = 'flat'; radius = 3 | cut 0 0 0 to 100 0 3 => [0, 300, 300, 300, 30
 #[test]
 fn samples(rt: HostRuntime) -> Result<(), Fail> {
     each_row(&rt, SAMPLES)
+}
+
+// A dogleg is tested by the box of its two ends, and cuts for sure at these alone.
+const BENDS: &str = "\
+three | dogleg 350 -50 400 to 600 50 0; dogleg 349 -50 400 to 600 50 0 => none; column 2 at 0 0
+three | run dogleg -500 -500 400 to 500 500 300; again; run dogleg -500 -500 400 to 500 500 299 \
+    => [300, 300, 300] after 1; [300, 300, 300] after 0; [300, 300, 300] after 0, Cut in 0 by \
+    column 0 at 0 0
+long cutter = 'flat'; radius = 10 | bend 0 0 200 to 100 5 200 => [200, 200, 300, 300, 300, 300, \
+    300, 300, 300, 300, 300, 300, 300, 300, 300, 300, 300, 300, 300, 200, 200, 200, 300, 300, 300, \
+    300, 300, 300, 300, 300, 300, 300, 300, 300, 300, 300, 300, 300, 300, 300, 300]";
+
+#[test]
+fn doglegs_are_tested_by_their_box_and_cut_at_their_ends(rt: HostRuntime) -> Result<(), Fail> {
+    each_row(&rt, BENDS)
 }
 
 // Moves from corner to corner over the last row, which stands at y = 515,713. Its last columns stand at

@@ -1,4 +1,4 @@
--- A move passes a triangle that is no higher than both its ends, or that stays far enough from it in x or in y.
+-- By halving, a move passes a triangle that is no higher than both its ends, or that stays far enough from it in x or in y.
 use Rattle.std.specs.Prelude.{◌≡◌, ℕ, zero, suc, ◌+◌, ◌*◌, ◌^◌, ◌<◌, ◌≤◌, nat_abs, ℤ, pos, negsuc, ◌+ℤ◌, ◌-ℤ◌, ◌*ℤ◌, ◌<ℤ◌, ◌≤ℤ◌, int_lt, Bool, true, false, cond}
 use Rattle.std.proofs.Common.{inl, inr, refl, subst, sym, arith}
 use Rattle.std.proofs.lemmas.Int.{ints}
@@ -18,9 +18,8 @@ use Rattle.mill_base.specs.declared.limits.TheConstants.{MAX_COORDINATE, MAX_LAS
 use Rattle.mill_shape.proofs.Holding.{holds_around}
 use Rattle.mill_sweep.specs.Lifted.{IsLiftedMove}
 use Rattle.mill_sweep.specs.Leaves.{depth_of, end_of, middle_of, lower_of, reach_of, span_of, outer_tip}
-use Rattle.mill_sweep.specs.Halving.{IsFree, LeafPasses, Passes, LiesBeside, middle_point}
-use Rattle.mill_sweep.specs.Moments.{IsFar}
-use Rattle.mill_sweep.specs.Apart.{IsUnderMove, LieOver, LieUnder, LieApart}
+use Rattle.mill_sweep.specs.Halving.{IsFree, LeafPasses, HalvingPasses, middle_point}
+use Rattle.mill_sweep.specs.Apart.{LiesBeside, LieOver, LieUnder, LieApart}
 use Rattle.mill_sweep.proofs.Halves.{left_place, right_place}
 use Rattle.mill_sweep.proofs.LeafCerts.{end_high, end_least, mean_most, mean_least, quotient_least, point_east, point_west, too_far_east, too_far_west}
 use Rattle.mill_sweep.proofs.Narrow.{reach_at_depth}
@@ -183,7 +182,7 @@ module _ (cutter : Cutter) (move : Move) (tri : Tri) (P : ℕ → ℕ → Type 0
   far_leaf (suc more) d k deep p = inr (far_leaf more (d + 1) (2 * k) (omega arith) (left d k p), far_leaf more (d + 1) (2 * k + 1) (omega arith) (right d k p))
 
 -- a leaf at or over the highest point passes by itself
-least_top : (a b c h : ℤ) → a ≤ℤ h → b ≤ℤ h → c ≤ℤ h → greater a (greater b c) ≤ℤ h
+pub least_top : (a b c h : ℤ) → a ≤ℤ h → b ≤ℤ h → c ≤ℤ h → greater a (greater b c) ≤ℤ h
 least_top a b c h p q r = by (int_lt a (greater b c)) (int_lt b c)
   where
     by : (s t : Bool) → cond s (cond t c b) a ≤ℤ h
@@ -197,7 +196,7 @@ highest_within tri ok = least_top tri.a.z tri.b.z tri.c.z (pos MAX_COORDINATE) (
     small : (z : ℤ) → nat_abs z ≤ MAX_COORDINATE → z ≤ℤ pos MAX_COORDINATE
     small z h = omega (arith, ints)
 
-pub top_passes : (cutter : Cutter) (move : Move) (tri : Tri) → highest tri ≤ℤ move.from.z → highest tri ≤ℤ move.to.z → Passes cutter move tri
+pub top_passes : (cutter : Cutter) (move : Move) (tri : Tri) → highest tri ≤ℤ move.from.z → highest tri ≤ℤ move.to.z → HalvingPasses cutter move tri
 top_passes cutter move tri from to = by (depth_of move)
   where
     free : IsFree cutter move tri 0 0
@@ -207,17 +206,9 @@ top_passes cutter move tri from to = by (depth_of move)
     by zero = free
     by (suc more) = inl free
 
-under_passes : (cutter : Cutter) (move : Move) (tri : Tri) → IsUnderMove move tri → Passes cutter move tri
-under_passes cutter move tri under =
-    top_passes cutter move tri (least_top _ _ _ _ under.from.a under.from.b under.from.c) (least_top _ _ _ _ under.to.a under.to.b under.to.c)
-
 -- the move passes a triangle at least the radius and 2 beside it
-pub beside_passes : (cutter : Cutter) (move : Move) (tri : Tri) → IsCutter cutter → IsLiftedMove move → LiesBeside (radius_of cutter +ℤ pos MAX_LAST_REACH) move.from move.to tri → Passes cutter move tri
+pub beside_passes : (cutter : Cutter) (move : Move) (tri : Tri) → IsCutter cutter → IsLiftedMove move → LiesBeside (radius_of cutter +ℤ pos MAX_LAST_REACH) move.from move.to tri → HalvingPasses cutter move tri
 beside_passes cutter move tri cutter_ok range (inl x) =
     far_leaf cutter move tri (λ d k. k < 2 ^ d) left_place right_place (λ d k inside. inl (apart_from_middle (radius_of cutter +ℤ pos MAX_LAST_REACH) move.from.x move.to.x tri.a.x tri.b.x tri.c.x d k inside x)) cutter_ok range (depth_of move) 0 0 (omega arith) (omega arith)
 beside_passes cutter move tri cutter_ok range (inr y) =
     far_leaf cutter move tri (λ d k. k < 2 ^ d) left_place right_place (λ d k inside. inr (apart_from_middle (radius_of cutter +ℤ pos MAX_LAST_REACH) move.from.y move.to.y tri.a.y tri.b.y tri.c.y d k inside y)) cutter_ok range (depth_of move) 0 0 (omega arith) (omega arith)
-
-pub lifted_far_passes : (cutter : Cutter) (move : Move) (tri : Tri) → IsCutter cutter → IsLiftedMove move → IsFar cutter move tri → Passes cutter move tri
-lifted_far_passes cutter move tri cutter_ok range (inl under) = under_passes cutter move tri under
-lifted_far_passes cutter move tri cutter_ok range (inr beside) = beside_passes cutter move tri cutter_ok range beside

@@ -8,7 +8,7 @@ use Rattle.mill_base.specs.declared.cutter.Cutter.{Cutter}
 use Rattle.mill_base.specs.declared.limits.TheConstants.{MAX_REACH, MAX_LAST_REACH}
 use Rattle.mill_sweep.specs.Lifted.{IsLiftedMove}
 use Rattle.mill_sweep.specs.Leaves.{depth_of, reach_of, span_of}
-use Rattle.mill_sweep.specs.Halving.{Blocks, IsFree, IsFreeSpan, LeafPasses, FailsUnder, FailsAt, Passes}
+use Rattle.mill_sweep.specs.Halving.{Blocks, IsFree, IsFreeSpan, LeafPasses, FailsUnder, HalvingFailsAt, HalvingPasses}
 use Rattle.mill_sweep.specs.declared.leaf.Leaf.{Leaf}
 use Rattle.mill_sweep.specs.declared.leaf.Span.{Span}
 use Rattle.mill_sweep.proofs.Narrow.{reach_at_depth}
@@ -104,10 +104,10 @@ module _ (cutter : Cutter) (move : Move) (tri : Tri) where
   -- the whole move's failing leaf
   pub whole_decides : (depth : ℕ) → depth ≡ depth_of move → (r : Option Leaf)
       → MatchOption r (LeafPasses cutter move tri depth 0 0) (λ at. FailsUnder cutter move tri depth 0 0 at)
-      → MatchOption r (Passes cutter move tri) (λ leaf. FailsAt cutter move tri leaf × Blocks cutter (span_of move leaf.d leaf.k) tri)
+      → MatchOption r (HalvingPasses cutter move tri) (λ leaf. HalvingFailsAt cutter move tri leaf × Blocks cutter (span_of move leaf.d leaf.k) tri)
   whole_decides depth e r m = by r (subst (λ n. MatchOption r (LeafPasses cutter move tri n 0 0) (λ at. FailsUnder cutter move tri n 0 0 at)) e m)
     where
       by : (r : Option Leaf) → MatchOption r (LeafPasses cutter move tri (depth_of move) 0 0) (λ at. FailsUnder cutter move tri (depth_of move) 0 0 at)
-          → MatchOption r (Passes cutter move tri) (λ leaf. FailsAt cutter move tri leaf × Blocks cutter (span_of move leaf.d leaf.k) tri)
+          → MatchOption r (HalvingPasses cutter move tri) (λ leaf. HalvingFailsAt cutter move tri leaf × Blocks cutter (span_of move leaf.d leaf.k) tri)
       by None p = p
       by (Some leaf) f = (record { fails = f.fails; leads = f.leads }, f.blocked)

@@ -17,7 +17,7 @@ use Rattle.mill_shape.proofs.CutHeights.{cutter_is_wide}
 use Rattle.mill_shape.proofs.Holding.{holds_over_tip}
 use Rattle.mill_sweep.specs.Lifted.{IsLiftedMove}
 use Rattle.mill_sweep.specs.Leaves.{depth_of, zlow_of, IsMomentOf}
-use Rattle.mill_sweep.specs.Halving.{IsFree, LeafPasses, Passes}
+use Rattle.mill_sweep.specs.Halving.{IsFree, LeafPasses, HalvingPasses}
 use Rattle.mill_sweep.proofs.LeafCerts.{half_from, half_to, point_under, over_low}
 use Rattle.mill_sweep.proofs.Outer.{low_over, lifted_outer_holds}
 use Rattle.mill_sweep.proofs.Passing.{radius_least}
@@ -113,6 +113,6 @@ leaf_is_clear cutter move tri (suc more) d j k m cutter_ok range deep less (inr 
       | inr right ↦ leaf_is_clear cutter move tri more (d + 1) (2 * j + 1) k m cutter_ok range (omega arith) (right_place d j less) both.1 right touches
     ]
 
-pub lifted_is_clear : (cutter : Cutter) (move : Move) (tri : Tri) (k m : ℤ) → IsCutter cutter → IsLiftedMove move → Passes cutter move tri → IsMoment k m → ¬ Touches cutter m (tip_at move k m) tri
+pub lifted_is_clear : (cutter : Cutter) (move : Move) (tri : Tri) (k m : ℤ) → IsCutter cutter → IsLiftedMove move → HalvingPasses cutter move tri → IsMoment k m → ¬ Touches cutter m (tip_at move k m) tri
 lifted_is_clear cutter move tri k m cutter_ok range passes moment touches =
     leaf_is_clear cutter move tri (depth_of move) 0 0 k m cutter_ok range (omega arith) (omega arith) passes (whole k m moment) touches

@@ -10,6 +10,9 @@ pub mod Lower
 mod Computed
 mod Rows
 pub mod Far
+mod ApartCerts
+mod Boxes
+pub mod ByKind
 pub mod OutOfReach
 mod Sides
 mod Rest

@@ -37,7 +37,7 @@ inside_rises (Ball r) n d z h i = record {
 inside_rises (Cone r a b) n d z h i = record { near = i.near; over = over_up d.z z i.over h; steep = cone_rises _ b d.z z i.steep i.over h }
 
 -- the highest corner of a point is the point
-highest_point : (p : Pt3) → highest (point_tri p) ≡ p.z
+pub highest_point : (p : Pt3) → highest (point_tri p) ≡ p.z
 highest_point p = same (int_lt p.z p.z) (int_lt p.z (greater p.z p.z))
   where
     same : (s t : Bool) → cond t (cond s p.z p.z) p.z ≡ p.z

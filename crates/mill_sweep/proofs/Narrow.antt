@@ -10,7 +10,7 @@ use Rattle.mill_base.specs.declared.cutter.Cutter.{Cutter}
 use Rattle.mill_base.specs.declared.limits.TheConstants.{MAX_LAST_REACH}
 use Rattle.mill_sweep.specs.Lifted.{IsLiftedMove}
 use Rattle.mill_sweep.specs.Leaves.{depth_of, end_of, middle_of, farther_of, diagonal_of, reach_of, span_of}
-use Rattle.mill_sweep.specs.Halving.{Blocks, FailsAt, IsFree, LeafPasses, LeadsTo}
+use Rattle.mill_sweep.specs.Halving.{Blocks, HalvingFailsAt, IsFree, LeafPasses, LeadsTo}
 use Rattle.mill_sweep.specs.declared.leaf.Leaf.{Leaf}
 use Rattle.mill_sweep.proofs.Depths.{lengths_at_depth}
 use Rattle.mill_sweep.proofs.LeafCerts.{near_high, near_low, near_high_last, near_low_last}
@@ -79,7 +79,7 @@ reach_at_depth move k range =
     let lengths = lengths_at_depth move range in
     diagonal_most _ _ (farther_most move.from.x move.to.x (depth_of move) k lengths.0) (farther_most move.from.y move.to.y (depth_of move) k lengths.1)
 
-pub lifted_is_blocked : (cutter : Cutter) (move : Move) (tri : Tri) (leaf : Leaf) → IsLiftedMove move → FailsAt cutter move tri leaf
+pub lifted_is_blocked : (cutter : Cutter) (move : Move) (tri : Tri) (leaf : Leaf) → IsLiftedMove move → HalvingFailsAt cutter move tri leaf
     → (reach_of move leaf.d leaf.k ≤ MAX_LAST_REACH) × (¬ (¬ Blocks cutter (span_of move leaf.d leaf.k) tri))
 lifted_is_blocked cutter move tri leaf range h =
     let fails = leads_down cutter move tri (depth_of move) 0 0 leaf h.fails h.leads in

@@ -15,10 +15,11 @@ use Rattle.mill_base.specs.declared.cutter.Cutter.{Cutter}
 use Rattle.mill_cells.specs.Boxes.{Meet, box_of}
 use Rattle.mill_sweep.specs.Lifted.{IsLiftedMove}
 use Rattle.mill_sweep.specs.Apart.{LieApart}
-use Rattle.mill_sweep.specs.Halving.{Passes}
+use Rattle.mill_sweep.specs.Passing.{Passes}
 use Rattle.mill_sweep.specs.Moments.{IsFar}
-use Rattle.mill_sweep.specs.Reach.{margin_of, low_side_of, high_side_of, reach_box_of, low_end_of, IsOutOfReach}
-use Rattle.mill_sweep.proofs.Far.{lifted_far_passes}
+use Rattle.mill_sweep.specs.Apart.{low_end_of}
+use Rattle.mill_sweep.specs.Reach.{margin_of, low_side_of, high_side_of, reach_box_of, IsOutOfReach}
+use Rattle.mill_sweep.proofs.ByKind.{lifted_far_passes}
 use Rattle.mill_sweep.proofs.Passing.{radius_least}
 use Rattle.mill_sweep.proofs.Sides.{least_of, most_of, ends_of, joined, split, wide}
 

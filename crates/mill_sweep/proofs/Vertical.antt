@@ -20,6 +20,7 @@ use Rattle.mill_sweep.specs.Vertical.{StaysOver, VerticalPasses, VerticalPassesP
 use Rattle.mill_sweep.proofs.Far.{lower_least}
 use Rattle.mill_sweep.proofs.Lower.{inside_rises}
 use Rattle.mill_sweep.proofs.Rest.{middle_at_rest, farther_at_rest}
+use Rattle.mill_sweep.proofs.ByKind.{straight_passes}
 use Rattle.mill_sweep.proofs.Unscaled.{touched_point}
 use Rattle.mill_sweep.proofs.UnscaledCerts.{higher_over_lower}
 
@@ -90,7 +91,7 @@ module _ (cutter : Cutter) (move : Move) (tri : Tri) (p : Pt3) (over : StaysOver
 
 -- the leaf (0, 0) of such a move passes by itself
 pub vertical_passes : VerticalPasses
-vertical_passes cutter move tri p over clear = passes_at_once cutter move tri p over (depth_of move) (free cutter move tri p over clear)
+vertical_passes cutter move tri p straight over clear = straight_passes cutter move tri straight (passes_at_once cutter move tri p over (depth_of move) (free cutter move tri p over clear))
 
 pub vertical_passes_point : VerticalPassesPoint
-vertical_passes_point cutter move q p over free = vertical_passes cutter move _ p over (λ touches. free (touched_point cutter p q touches))
+vertical_passes_point cutter move q p straight over free = vertical_passes cutter move _ p straight over (λ touches. free (touched_point cutter p q touches))

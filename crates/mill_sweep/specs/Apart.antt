@@ -1,7 +1,13 @@
 -- How a triangle lies to two places: under both, or away from both in one direction.
 use Rattle.std.specs.Prelude.{◌⊎◌, ℤ, ◌+ℤ◌, ◌≤ℤ◌}
+use Rattle.mill_base.specs.Numbers.{lesser}
+use Rattle.mill_base.specs.declared.points.Pt3.{Pt3}
 use Rattle.mill_base.specs.declared.points.Tri.{Tri}
 use Rattle.mill_base.specs.declared.motion.Move.{Move}
+
+-- the height of the move's lower end
+abbrev pub low_end_of : Move → ℤ
+low_end_of m = lesser m.from.z m.to.z
 
 -- no corner of the triangle is higher than h
 pub record IsNoHigher (h : ℤ) (tri : Tri) : Type 0 where
@@ -35,3 +41,7 @@ pub record LieUnder (r e f a b c : ℤ) : Type 0 where
 -- the interval of the corners a, b, c and that of the ends e, f lie at least r apart
 abbrev pub LieApart : ℤ → ℤ → ℤ → ℤ → ℤ → ℤ → Type 0
 LieApart r e f a b c = LieOver r e f a b c ⊎ LieUnder r e f a b c
+
+-- the triangle lies, in x or in y, at least r away from the box of two places
+abbrev pub LiesBeside : ℤ → Pt3 → Pt3 → Tri → Type 0
+LiesBeside r from to tri = LieApart r from.x to.x tri.a.x tri.b.x tri.c.x ⊎ LieApart r from.y to.y tri.a.y tri.b.y tri.c.y

@@ -1,8 +1,8 @@
--- Which moves pass a triangle at every moment, by halving.
+-- Which straight moves pass a triangle at every moment, by halving.
 use Rattle.std.specs.Prelude.{◌≡◌, ◌⊎◌, ℕ, zero, suc, ◌+◌, ◌*◌, ◌≤◌, ℤ, pos, ◌<ℤ◌, ◌≤ℤ◌}
 use Rattle.mill_base.specs.Numbers.{Within}
 use Rattle.mill_base.specs.declared.limits.TheConstants.{MAX_COORDINATE, MAX_REACH}
-use Rattle.mill_base.specs.Points.{highest, point_at, point_tri}
+use Rattle.mill_base.specs.Points.{highest, point_at}
 use Rattle.mill_base.specs.Contact.{Touches}
 use Rattle.mill_base.specs.Sizes.{outer}
 use Rattle.mill_base.specs.declared.points.Pt3.{Pt3}
@@ -10,7 +10,6 @@ use Rattle.mill_base.specs.declared.points.Tri.{Tri}
 use Rattle.mill_base.specs.declared.motion.Move.{Move}
 use Rattle.mill_base.specs.declared.cutter.Cutter.{Cutter}
 use Rattle.mill_sweep.specs.Leaves.{depth_of, span_of, reach_of, zlow_of, outer_tip}
-use Rattle.mill_sweep.specs.Apart.{LieApart}
 use Rattle.mill_sweep.specs.Lifted.{IsTipHeight}
 use Rattle.mill_sweep.specs.declared.leaf.Leaf.{Leaf}
 use Rattle.mill_sweep.specs.declared.leaf.Span.{Span}
@@ -30,8 +29,8 @@ LeafPasses cutter m tri zero d k = IsFree cutter m tri d k
 LeafPasses cutter m tri (suc more) d k = IsFree cutter m tri d k ⊎ (LeafPasses cutter m tri more (d + 1) (2 * k) × LeafPasses cutter m tri more (d + 1) (2 * k + 1))
 
 -- the whole move passes
-abbrev pub Passes : Cutter → Move → Tri → Type 0
-Passes cutter m tri = LeafPasses cutter m tri (depth_of m) 0 0
+abbrev pub HalvingPasses : Cutter → Move → Tri → Type 0
+HalvingPasses cutter m tri = LeafPasses cutter m tri (depth_of m) 0 0
 
 -- from the leaf (d, k), which doesn't pass, the way to the left half if that fails, else to the right half, ends at this leaf
 abbrev pub LeadsTo : Cutter → Move → Tri → ℕ → ℕ → ℕ → Leaf → Type 0
@@ -41,13 +40,9 @@ LeadsTo cutter m tri (suc more) d k leaf =
     ⊎ (LeafPasses cutter m tri more (d + 1) (2 * k) × LeadsTo cutter m tri more (d + 1) (2 * k + 1) leaf)
 
 -- the move doesn't pass the triangle, and this is its failing leaf
-pub record FailsAt (cutter : Cutter) (m : Move) (tri : Tri) (leaf : Leaf) : Type 0 where
-  pub fails : ¬ Passes cutter m tri
+pub record HalvingFailsAt (cutter : Cutter) (m : Move) (tri : Tri) (leaf : Leaf) : Type 0 where
+  pub fails : ¬ HalvingPasses cutter m tri
   pub leads : LeadsTo cutter m tri (depth_of m) 0 0 leaf
-
--- the same for a point, which is a triangle of three equal corners
-abbrev pub PassesPoint : Cutter → Move → Pt3 → Type 0
-PassesPoint cutter m p = Passes cutter m (point_tri p)
 
 -- the leaf (d, k), with more further halvings, doesn't pass, and this is its failing leaf, which is blocked
 pub record FailsUnder (cutter : Cutter) (m : Move) (tri : Tri) (more d k : ℕ) (leaf : Leaf) : Type 0 where
@@ -69,7 +64,3 @@ IsFreeSpan cutter s tri = ((s.reach ≤ℤ pos MAX_REACH) × (¬ Blocks cutter s
 -- the middle of a leaf, at its lower end
 abbrev pub middle_point : Span → Pt3
 middle_point s = point_at s.x s.y s.zlow
-
--- the triangle lies, in x or in y, at least r away from the box of two places
-abbrev pub LiesBeside : ℤ → Pt3 → Pt3 → Tri → Type 0
-LiesBeside r from to tri = LieApart r from.x to.x tri.a.x tri.b.x tri.c.x ⊎ LieApart r from.y to.y tri.a.y tri.b.y tri.c.y

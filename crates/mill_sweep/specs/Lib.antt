@@ -3,8 +3,10 @@ pub mod Apart
 pub mod Leaves
 pub mod Lifted
 pub mod Halving
+pub mod Passing
 pub mod Solids
 pub mod Sweeps
 pub mod Moments
 pub mod Vertical
 pub mod Reach
+pub mod inner

@@ -11,6 +11,7 @@ use Rattle.mill_base.specs.declared.motion.Move.{Move}
 use Rattle.mill_base.specs.declared.cutter.Cutter.{Cutter}
 use Rattle.mill_base.specs.declared.limits.TheConstants.{MAX_COORDINATE, MAX_LAST_REACH}
 use Rattle.mill_cells.specs.Boxes.{box_of, Meet}
+use Rattle.mill_sweep.specs.Apart.{low_end_of}
 use Rattle.mill_sweep.specs.Solids.{SolidPasses}
 
 -- how far from the move a triangle may lie and still block it: nearer than the radius and the last reach
@@ -32,10 +33,6 @@ reach_box_of cutter m = record {
   x1 = high_side_of m.from.x m.to.x (margin_of cutter);
   y1 = high_side_of m.from.y m.to.y (margin_of cutter);
 }
-
--- the height of the move's lower end
-abbrev pub low_end_of : Move → ℤ
-low_end_of m = lesser m.from.z m.to.z
 
 -- the triangle's box doesn't meet that box, or its highest point isn't over that height
 abbrev pub IsOutOfReach : Cutter → Move → Tri → Type 0

@@ -3,11 +3,10 @@ use Rattle.mill_base.specs.Solids.{Solid, lifted}
 use Rattle.mill_base.specs.declared.motion.Move.{Move}
 use Rattle.mill_base.specs.declared.points.Pt3.{Pt3}
 use Rattle.mill_base.specs.declared.points.Tri.{Tri}
-use Rattle.mill_sweep.specs.Halving.{Blocks, FailsAt, Passes, PassesPoint}
-use Rattle.mill_sweep.specs.Leaves.{span_of}
+use Rattle.mill_sweep.specs.Passing.{FailsAt, IsBlocked, Passes, PassesPoint}
 use Rattle.mill_sweep.specs.declared.leaf.Leaf.{Leaf}
 
--- the solid passes the triangle, or the point, at every moment of the move
+-- the solid passes the triangle, or the point, wherever the tip may be on the move
 abbrev pub SolidPasses : Solid → Move → Tri → Type 0
 SolidPasses solid m tri = Passes solid.cutter (lifted solid m) tri
 
@@ -20,4 +19,4 @@ SolidFailsAt solid m tri leaf = FailsAt solid.cutter (lifted solid m) tri leaf
 
 -- the triangle blocks the solid on this leaf of the move
 abbrev pub SolidIsBlocked : Solid → Move → Tri → Leaf → Type 0
-SolidIsBlocked solid m tri leaf = Blocks solid.cutter (span_of (lifted solid m) leaf.d leaf.k) tri
+SolidIsBlocked solid m tri leaf = IsBlocked solid.cutter (lifted solid m) tri leaf

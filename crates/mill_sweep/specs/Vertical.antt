@@ -1,11 +1,12 @@
 -- Moves straight up and down, and what they pass.
 use Rattle.std.specs.Prelude.{◌≡◌, pos, ◌≤ℤ◌}
 use Rattle.mill_base.specs.Contact.{Holds, Touches}
+use Rattle.mill_base.specs.Motion.{IsStraight}
 use Rattle.mill_base.specs.declared.points.Pt3.{Pt3}
 use Rattle.mill_base.specs.declared.points.Tri.{Tri}
 use Rattle.mill_base.specs.declared.motion.Move.{Move}
 use Rattle.mill_base.specs.declared.cutter.Cutter.{Cutter}
-use Rattle.mill_sweep.specs.Halving.{Passes, PassesPoint}
+use Rattle.mill_sweep.specs.Passing.{Passes, PassesPoint}
 
 -- the place q is p, or stands straight over it
 pub record IsStraightOver (p q : Pt3) : Type 0 where
@@ -18,10 +19,10 @@ pub record StaysOver (p : Pt3) (m : Move) : Type 0 where
   pub from : IsStraightOver p m.from
   pub to : IsStraightOver p m.to
 
--- a move straight up or down passes each triangle that the cutter doesn't touch with its tip at the move's lower end, or at a place under it
+-- a straight move up or down passes each triangle that the cutter doesn't touch with its tip at the move's lower end, or at a place under it
 abbrev pub VerticalPasses : Type 0
-VerticalPasses = (cutter : Cutter) (move : Move) (tri : Tri) (p : Pt3) → StaysOver p move → ¬ Touches cutter (pos 1) p tri → Passes cutter move tri
+VerticalPasses = (cutter : Cutter) (move : Move) (tri : Tri) (p : Pt3) → IsStraight move → StaysOver p move → ¬ Touches cutter (pos 1) p tri → Passes cutter move tri
 
 -- and each point that the cutter doesn't hold there
 abbrev pub VerticalPassesPoint : Type 0
-VerticalPassesPoint = (cutter : Cutter) (move : Move) (q p : Pt3) → StaysOver p move → ¬ Holds cutter (pos 1) p (pos 1) q → PassesPoint cutter move q
+VerticalPassesPoint = (cutter : Cutter) (move : Move) (q p : Pt3) → IsStraight move → StaysOver p move → ¬ Holds cutter (pos 1) p (pos 1) q → PassesPoint cutter move q

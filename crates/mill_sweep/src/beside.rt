@@ -1,8 +1,7 @@
 ghost use Rattle.std.specs.Prelude.{◌≡◌, ◌↔◌, ◌^◌, ◌≤◌, ◌+ℤ◌, pos, IsTrue};
 ghost use Rattle.mill_base.specs.Sizes.{IsCutter, radius_of};
 ghost use Rattle.mill_base.specs.declared.limits.TheConstants.{MAX_LAST_REACH};
-ghost use Rattle.mill_sweep.specs.Apart.{LieApart};
-ghost use Rattle.mill_sweep.specs.Halving.{LiesBeside};
+ghost use Rattle.mill_sweep.specs.Apart.{LieApart, LiesBeside};
 ghost use Rattle.mill_sweep.specs.Sweeps.{IsStretch};
 ghost use Rattle.mill_sweep.specs.Widths.{longest};
 
@@ -22,6 +21,15 @@ pub(crate) fn is_beside_move(cutter: Cutter, step: &Move, tri: &Tri) -> bool
         step.to,
         tri,
     )
+}
+
+/// Whether the triangle lies, in x or in y, at least the radius away from the box of the move's two
+/// ends.
+pub(crate) fn is_beside_box(cutter: Cutter, step: &Move, tri: &Tri) -> bool
+    requires { IsCutter cutter }
+    ensures { IsTrue result ↔ LiesBeside (radius_of cutter) step.now.from step.now.to tri.now }
+{
+    lies_beside(cutter.radius(), step.from, step.to, tri)
 }
 
 /// Whether the triangle lies, in x, so far from a leaf that each leaf under it passes.

@@ -3,27 +3,33 @@ ghost use Rattle.mill_base.specs.Points.{point_tri};
 ghost use Rattle.mill_base.specs.Ranges.{IsInRange, MoveInRange, TriInRange};
 ghost use Rattle.mill_base.specs.Sizes.{IsCutter};
 ghost use Rattle.mill_base.specs.declared.limits.TheConstants.{MAX_REACH, MAX_DEPTH};
-ghost use Rattle.mill_sweep.specs.Halving.{Blocks, FailsAt, FailsUnder, IsFreeSpan, LeafPasses, Passes};
+ghost use Rattle.mill_sweep.specs.Apart.{low_end_of};
+ghost use Rattle.mill_sweep.specs.Halving.{Blocks, FailsUnder, HalvingFailsAt};
+ghost use Rattle.mill_sweep.specs.Halving.{HalvingPasses, IsFreeSpan, LeafPasses};
 ghost use Rattle.mill_sweep.specs.Leaves.{depth_of, span_of};
 ghost use Rattle.mill_sweep.specs.Lifted.{IsLiftedMove};
-ghost use Rattle.mill_sweep.specs.Solids.{SolidFailsAt, SolidIsBlocked, SolidPasses, SolidPassesPoint};
+ghost use Rattle.mill_sweep.specs.Passing.{BoxBlocks, BoxPasses, FailsAt, IsBlocked, Passes};
+ghost use Rattle.mill_sweep.specs.Solids.{SolidFailsAt, SolidIsBlocked};
+ghost use Rattle.mill_sweep.specs.Solids.{SolidPasses, SolidPassesPoint};
 ghost use Rattle.mill_sweep.specs.Sweeps.{IsPrepared, PassesDown};
+ghost use Rattle.mill_sweep.specs.inner.Boxes.{BoxFailsAt};
 
-use crate::beside::{is_beside_in_x, is_beside_in_y, is_beside_move};
+use crate::beside::{is_beside_box, is_beside_in_x, is_beside_in_y, is_beside_move};
 use crate::leaf::Leaf;
 use crate::leaf_span::{low_end, stretch_in_x, stretch_in_y};
 use crate::leaf_test::{is_free, is_free_by, is_no_higher};
 use crate::solid::lift;
 use crate::sweep::{Prepared, prepare};
-use mill_base::{Cutter, Move, Pt3, Solid, Tri};
+use mill_base::{Cutter, Kind, Move, Pt3, Solid, Tri};
 
 /// Whether the solid passes the triangle on the move: halved as often as its depth says, the move
-/// of its tip has no leaf that the triangle blocks.
+/// of its tip has no leaf that the triangle blocks. A dogleg passes a triangle that lies beside the
+/// box of its two ends, or no higher than the lower one.
 ///
-/// A solid that passes holds no point of the triangle strictly inside at any moment. One that
-/// doesn't comes so near to it that the outer cutter of a leaf, which is at most 2 wider, holds a
-/// point of the triangle. Lengths are in units; coordinates go from -524,287 to 524,287, and the
-/// solid's tip may leave that range by its lift.
+/// A solid that passes holds no point of the triangle strictly inside wherever the tip may be. One
+/// that doesn't comes so near to it on a straight move that the outer cutter of a leaf, which is at
+/// most 2 wider, holds a point of the triangle. Lengths are in units; coordinates go from -524,287
+/// to 524,287, and the solid's tip may leave that range by its lift.
 pub fn passes_tri(solid: Solid, step: &Move, tri: &Tri) -> bool
     requires move_ok { MoveInRange step.now }
     requires tri_ok { TriInRange tri.now }
@@ -47,9 +53,9 @@ pub fn passes_point(solid: Solid, step: &Move, point: Pt3) -> bool
 /// passes.
 ///
 /// Halving from the whole move on leads to this leaf, each time by the first half that doesn't
-/// pass, and the triangle blocks it. A leaf of the solid's way is one of the tool's, since both are
-/// halved at the same moments. Where many triangles are tried against one move, a `Sweep` of it
-/// does the same with less work for each.
+/// pass, and the triangle blocks it. That of a dogleg is the whole move. A leaf of the solid's way
+/// is one of the tool's, since both are halved at the same moments. Where many triangles are tried
+/// against one move, a `Sweep` of it does the same with less work for each.
 pub fn first_block(solid: Solid, step: &Move, tri: &Tri) -> Option<Leaf>
     requires move_ok { MoveInRange step.now }
     requires tri_ok { TriInRange tri.now }
@@ -63,12 +69,12 @@ fn first_of_tip(cutter: Cutter, step: &Move, tri: &Tri) -> Option<Leaf>
     requires cutter_ok { IsCutter cutter }
     requires move_ok { IsLiftedMove step.now }
     requires tri_ok { TriInRange tri.now }
-    ensures { MatchOption result (Passes cutter step.now tri.now) (λ leaf. FailsAt cutter step.now tri.now leaf × Blocks cutter (span_of step.now leaf.d leaf.k) tri.now) }
+    ensures { MatchOption result (Passes cutter step.now tri.now) (λ leaf. FailsAt cutter step.now tri.now leaf × IsBlocked cutter step.now tri.now leaf) }
 {
     if is_far(cutter, step, tri) {
         return None;
     }
-    first_halved(&prepare(cutter, step), tri)
+    first_near(&prepare(cutter, step), tri)
 }
 
 /// The leaf at which the solid fails to pass the point, none exactly where it passes.
@@ -84,12 +90,49 @@ pub fn first_block_point(solid: Solid, step: &Move, point: Pt3) -> Option<Leaf>
 pub(crate) fn first_on(prepared: &Prepared, tri: &Tri) -> Option<Leaf>
     requires prepared_ok { IsPrepared prepared.now }
     requires tri_ok { TriInRange tri.now }
-    ensures { MatchOption result (Passes prepared.now.cutter prepared.now.step tri.now) (λ leaf. FailsAt prepared.now.cutter prepared.now.step tri.now leaf × Blocks prepared.now.cutter (span_of prepared.now.step leaf.d leaf.k) tri.now) }
+    ensures { MatchOption result (Passes prepared.now.cutter prepared.now.step tri.now) (λ leaf. FailsAt prepared.now.cutter prepared.now.step tri.now leaf × IsBlocked prepared.now.cutter prepared.now.step tri.now leaf) }
 {
     if is_far(prepared.cutter, &prepared.step, tri) {
         return None;
     }
-    first_halved(prepared, tri)
+    first_near(prepared, tri)
+}
+
+/// The same without a look first at whether the triangle is far away: a dogleg is judged by the box
+/// of its two ends, and each other move is halved.
+fn first_near(prepared: &Prepared, tri: &Tri) -> Option<Leaf>
+    requires prepared_ok { IsPrepared prepared.now }
+    requires tri_ok { TriInRange tri.now }
+    ensures { MatchOption result (Passes prepared.now.cutter prepared.now.step tri.now) (λ leaf. FailsAt prepared.now.cutter prepared.now.step tri.now leaf × IsBlocked prepared.now.cutter prepared.now.step tri.now leaf) }
+{
+    match prepared.step.kind {
+        Kind::Rapid => first_halved(prepared, tri),
+        Kind::Feed => first_halved(prepared, tri),
+        Kind::Dogleg => first_by_box(prepared.cutter, &prepared.step, tri),
+    }
+}
+
+/// The whole move, where a dogleg doesn't pass the triangle: a corner is higher than its lower end,
+/// and the triangle lies nearer than the radius to the box of its two ends.
+fn first_by_box(cutter: Cutter, step: &Move, tri: &Tri) -> Option<Leaf>
+    requires cutter_ok { IsCutter cutter }
+    requires move_ok { IsLiftedMove step.now }
+    ensures { MatchOption result (BoxPasses cutter step.now tri.now) (λ leaf. BoxFailsAt cutter step.now tri.now leaf × BoxBlocks cutter step.now tri.now) }
+{
+    if is_no_higher(tri, lower_end(step)) {
+        return None;
+    }
+    if is_beside_box(cutter, step, tri) {
+        return None;
+    }
+    Some(Leaf { d: 0, k: 0 })
+}
+
+/// The height of the lower end of the move.
+fn lower_end(step: &Move) -> i32
+    ensures { result ≡ low_end_of step.now }
+{
+    step.from.z.min(step.to.z)
 }
 
 /// Whether the triangle is no higher than the move's lower end, or lies far beside the whole move:
@@ -109,7 +152,7 @@ fn is_far(cutter: Cutter, step: &Move, tri: &Tri) -> bool
 fn first_halved(prepared: &Prepared, tri: &Tri) -> Option<Leaf>
     requires prepared_ok { IsPrepared prepared.now }
     requires tri_ok { TriInRange tri.now }
-    ensures { MatchOption result (Passes prepared.now.cutter prepared.now.step tri.now) (λ leaf. FailsAt prepared.now.cutter prepared.now.step tri.now leaf × Blocks prepared.now.cutter (span_of prepared.now.step leaf.d leaf.k) tri.now) }
+    ensures { MatchOption result (HalvingPasses prepared.now.cutter prepared.now.step tri.now) (λ leaf. HalvingFailsAt prepared.now.cutter prepared.now.step tri.now leaf × Blocks prepared.now.cutter (span_of prepared.now.step leaf.d leaf.k) tri.now) }
 {
     first_under(prepared, tri, Leaf { d: 0, k: 0 }, prepared.depth)
 }

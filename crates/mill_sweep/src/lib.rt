@@ -1,11 +1,15 @@
 //! Which solids of a tool pass a triangle or a point at every moment of a move, by halving the move
 //! into leaves.
 //!
+//! A dogleg, whose tip may be anywhere in the box of its two ends, isn't halved, but judged by that
+//! box (`specs/Passing`).
+//!
 //! It stands on `mill_base`, `mill_shape` and the contact crates, and says by mill_cells when boxes
 //! meet. `passes_tri` is so exactly where the halving says (`specs/Leaves`, `specs/Halving`), for a
-//! solid on the move of its own tip (`specs/Solids`); passing means that nothing is inside at any
-//! moment (`specs/Moments`), and a failing leaf has a reach of at most 2 units, and is blocked.
-//! `reach_box` says which triangles need to be tried at all (`specs/Reach`).
+//! solid on the move of its own tip (`specs/Solids`); passing means that nothing is inside wherever
+//! the tip may be (`specs/Moments`), and a failing leaf is blocked, and has a reach of at most 2
+//! units where the move is straight. `reach_box` says which triangles need to be tried at all
+//! (`specs/Reach`).
 #![tactic(auto)]
 
 mod beside;

@@ -7,14 +7,14 @@ pub fn outer_holds()
     ensures { OuterHolds }
 {}
 
-/// A law: a solid that passes a triangle on a move never holds a point of it strictly inside, at
-/// any moment of the move.
+/// A law: a solid that passes a triangle on a move never holds a point of it strictly inside,
+/// wherever the tip may be on the move.
 pub fn halving_is_clear()
     ensures { PassingIsClear }
 {}
 
 /// A law: a solid that passes a point on a move holds no whole point at or under it strictly
-/// inside, at any moment of the move.
+/// inside, wherever the tip may be on the move.
 pub fn halving_keeps_point()
     ensures { PassingKeepsPoint }
 {}
@@ -25,19 +25,20 @@ pub fn far_passes()
     ensures { FarPasses }
 {}
 
-/// A law: a move straight up or down passes each triangle that the cutter doesn't touch with its
+/// A law: a straight move up or down passes each triangle that the cutter doesn't touch with its
 /// tip at the move's lower end, or at a place under it.
 pub fn vertical_passes()
     ensures { VerticalPasses }
 {}
 
-/// A law: a move straight up or down passes each point that the cutter doesn't hold with its tip at
+/// A law: a straight move up or down passes each point that the cutter doesn't hold with its tip at
 /// the move's lower end, or at a place under it.
 pub fn vertical_passes_point()
     ensures { VerticalPassesPoint }
 {}
 
-/// A law: a failing leaf has a reach of at most 2, and it can't be that it isn't blocked.
+/// A law: a straight move's failing leaf has a reach of at most 2, and of every move it can't be
+/// that it isn't blocked.
 pub fn failing_is_blocked()
     ensures { FailingIsBlocked }
 {}

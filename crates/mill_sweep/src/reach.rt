@@ -4,7 +4,8 @@ ghost use Rattle.mill_base.specs.declared.limits.TheConstants.{MAX_COORDINATE};
 ghost use Rattle.mill_base.specs.Ranges.{MoveInRange};
 ghost use Rattle.mill_base.specs.Sizes.{IsCutter};
 ghost use Rattle.mill_base.specs.Solids.{IsLift, IsSolid, lifted};
-ghost use Rattle.mill_sweep.specs.Reach.{OutOfReachPasses, reach_box_of, low_end_of, margin_of, low_side_of, high_side_of};
+ghost use Rattle.mill_sweep.specs.Apart.{low_end_of};
+ghost use Rattle.mill_sweep.specs.Reach.{OutOfReachPasses, reach_box_of, margin_of, low_side_of, high_side_of};
 
 use mill_base::{Box2, Cutter, MAX_COORDINATE, MAX_LAST_REACH, Move, Solid};
 

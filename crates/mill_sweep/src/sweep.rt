@@ -3,9 +3,8 @@ ghost use Rattle.mill_base.specs.Points.{point_tri};
 ghost use Rattle.mill_base.specs.Ranges.{IsInRange, MoveInRange, TriInRange};
 ghost use Rattle.mill_base.specs.Sizes.{IsCutter};
 ghost use Rattle.mill_base.specs.Solids.{lifted};
-ghost use Rattle.mill_sweep.specs.Halving.{Blocks, FailsAt, Passes, PassesPoint};
-ghost use Rattle.mill_sweep.specs.Leaves.{span_of};
 ghost use Rattle.mill_sweep.specs.Lifted.{IsLiftedMove};
+ghost use Rattle.mill_sweep.specs.Passing.{FailsAt, IsBlocked, Passes, PassesPoint};
 ghost use Rattle.mill_sweep.specs.Sweeps.{IsPrepared};
 
 use crate::halving::{first_on, triangle_at};
@@ -48,7 +47,7 @@ impl Sweep {
     /// The leaf at which the move fails to pass the triangle, none exactly where the move passes.
     pub fn first_block(&self, tri: &Tri) -> Option<Leaf>
         requires { TriInRange tri.now }
-        ensures { MatchOption result (Passes self.now.cutter self.now.move tri.now) (λ leaf. FailsAt self.now.cutter self.now.move tri.now leaf × Blocks self.now.cutter (span_of self.now.move leaf.d leaf.k) tri.now) }
+        ensures { MatchOption result (Passes self.now.cutter self.now.move tri.now) (λ leaf. FailsAt self.now.cutter self.now.move tri.now leaf × IsBlocked self.now.cutter self.now.move tri.now leaf) }
     {
         first_on(&self.prepared, tri)
     }
@@ -56,7 +55,7 @@ impl Sweep {
     /// The leaf at which the move fails to pass the point, none exactly where the move passes.
     pub fn first_block_point(&self, point: Pt3) -> Option<Leaf>
         requires { IsInRange point }
-        ensures { MatchOption result (PassesPoint self.now.cutter self.now.move point) (λ leaf. FailsAt self.now.cutter self.now.move (point_tri point) leaf × Blocks self.now.cutter (span_of self.now.move leaf.d leaf.k) (point_tri point)) }
+        ensures { MatchOption result (PassesPoint self.now.cutter self.now.move point) (λ leaf. FailsAt self.now.cutter self.now.move (point_tri point) leaf × IsBlocked self.now.cutter self.now.move (point_tri point) leaf) }
     {
         self.first_block(&triangle_at(point))
     }

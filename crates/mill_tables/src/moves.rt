@@ -9,12 +9,14 @@ use mill_base::{Kind, Move};
 use std::alloc::Global;
 use std::test::Fail;
 
-/// A rapid by its word; any other is a feed.
+/// A rapid or a dogleg by its word; any other is a feed.
 pub fn kind(word: &str) -> Kind
     ensures { (result ≡ Rapid) ↔ (word.now ≡ codes "rapid") }
 {
     if word == "rapid" {
         Kind::Rapid
+    } else if word == "dogleg" {
+        Kind::Dogleg
     } else {
         Kind::Feed
     }

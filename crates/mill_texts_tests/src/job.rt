@@ -6,7 +6,7 @@
 use crate::tables::{same, text_of_row};
 use mill_base::{Box2, Cutter, Pt3, Solid, Tool, Unit};
 use mill_decimal::Snap;
-use mill_job::{Fixtures, JobFault, JobFields, Key, Levels, Name, Place, Start, read_job};
+use mill_job::{Fixtures, JobFault, JobFields, Key, Levels, Name, Place, Rapids, Start, read_job};
 use mill_tables::halves;
 use std::alloc::Global;
 use std::process::Abort;
@@ -84,6 +84,7 @@ const JOB: JobFields = JobFields {
     overcut: 0,
     graze: None,
     keep_out: Fixtures::NONE,
+    rapids: Rapids::Straight,
     start: Start::Home,
     spindle: false,
 };

@@ -20,7 +20,10 @@ const READ: &str = r#"# => keep_out = [] => and fixtures []
 # => unit = "thousandth"\nkeep_out = [[-524287, 0, 524287, 0, -524287]] => height: -524287 }]
 # => slack = 20\nkeep_out = [[0, 0, 0, 0, 380]] => height: 380 }]
 "flat" => "cone"\nrise = 4\nrun = 3\nslack = 2\nkeep_out = [[0, 0, 0, 0, 396]] => height: 396 }]
-# => # => start: Home, spindle: false } with
+# => # => rapids: Straight, start: Home, spindle: false } with
+# => rapids = "straight" => rapids: Straight, start: Home
+# => rapids = "axes" => rapids: Axes, start: Home
+# => start = "change"\nrapids = "axes" => rapids: Axes, start: Change
 # => spindle = true => start: Home, spindle: true } with
 # => start = "anywhere" => start: Anywhere, spindle: false }
 # => start = "change"\nspindle = false => start: Change, spindle: false }
@@ -55,6 +58,12 @@ const REFUSED: &str = r#"# => keep_out = 5 => wrong kind of keep_out
 # => graze = -1\nkeep_out = 5 => graze out of range
 # => keep_out = [[0, 0, 0, 0, 401]]\nstart = "there" => start out of range
 # => keep_out = 5\nstart = 5 => wrong kind of keep_out
+# => rapids = "Axes" => rapids out of range
+# => rapids = "axes "\nstart = 5 => rapids out of range
+# => rapids = ["axes"]\nstart = "there" => wrong kind of rapids
+# => rapids = 1 => wrong kind of rapids
+# => keep_out = 5\nrapids = 5 => wrong kind of keep_out
+# => rapid = "axes" => unknown rapid
 # => start = "Anywhere" => start out of range
 # => start = ["home"]\nspindle = "x" => wrong kind of start
 # => start = "home "\nspindle = 1 => start out of range

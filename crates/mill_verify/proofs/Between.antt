@@ -25,7 +25,7 @@ use Rattle.mill_dexel.proofs.Removal.{over_top_is_removed}
 use Rattle.mill_verify.specs.Between.{BetweenIsSafe, CutsSafelyWith, LeavesWith, LiesBetween, Shape}
 use Rattle.mill_verify.specs.Claims.{LeavesPoint, column_point}
 use Rattle.mill_verify.specs.Verdicts.{AcceptsOn}
-use Rattle.mill_verify.proofs.Depths.{clears_as}
+use Rattle.mill_verify.proofs.Depths.{as_rapid, clears_as}
 use Rattle.mill_verify.proofs.Safe.{are_covered, in_range, met_under, misses_fixtures, misses_part, top_ok, under_top, uncut_ok}
 
 abbrev solid_with : Cutter → ℤ → Solid
@@ -61,19 +61,19 @@ module _ (job : JobFields) (part : List Tri) (moves : List Move) (tool : Shape) 
 
   pub cuts_with : (count columns : ℕ) (most : ℤ) → AcceptsOn job part (uncut job) moves count columns most → CutsSafelyWith job part moves tool
   cuts_with count columns most accepts = record {
-    gouges = λ m a n tri q p member moment part_member point inside deeper.
-        misses_part job part (uncut job) moves ok (uncut_ok job part moves ok all_ok) all_ok passing_is_clear (part_solid_of job) (part_solid_ok job ok) (λ k hk. (accepts.good k hk).clears) m a n member moment
-        (record { tri = tri; member = part_member; touches = record { n = q; p = p; point = point; inside = subst (λ (s : Solid). SolidHolds s n (tip_at m a n) q p) (deeper_is job.cutter job.overcut job.slack) deeper } });
-    rapids = λ k j i h a n there rapid point left moment inside deeper.
-        passing_keeps_point (stock_solid_of job) (move_at moves k) (column_x job i) (column_y job j) (stock_after job (uncut job) (take k moves) j i) h a n (stock_solid_ok job ok)
+    gouges = λ m n tip tri q p member is part_member point inside deeper.
+        misses_part job part (uncut job) moves ok (uncut_ok job part moves ok all_ok) all_ok passing_is_clear (part_solid_of job) (part_solid_ok job ok) (λ k hk. (accepts.good k hk).clears) m n tip member is
+        (record { tri = tri; member = part_member; touches = record { n = q; p = p; point = point; inside = subst (λ (s : Solid). SolidHolds s n tip q p) (deeper_is job.cutter job.overcut job.slack) deeper } });
+    rapids = λ k j i h n tip there rapid point left is inside deeper.
+        passing_keeps_point (stock_solid_of job) (move_at moves k) (column_x job i) (column_y job j) (stock_after job (uncut job) (take k moves) j i) h n tip (stock_solid_ok job ok)
         (in_range job part (uncut job) moves ok (uncut_ok job part moves ok all_ok) all_ok k there) (top_ok job part (uncut job) moves ok (uncut_ok job part moves ok all_ok) all_ok k j i point.column)
-        (clears_as job (uncut job) moves Rapid k rapid (accepts.good k there).stock tt j i point.column) (met_under job part moves ok all_ok over_top_is_removed k j i h point (may_leave (take k moves) j i h left)) moment
-        (subst (λ (s : Solid). SolidHolds s n (tip_at (move_at moves k) a n) (pos 1) (column_point job j i h)) (deeper_is job.cutter (graze_of job) job.slack) deeper);
+        (clears_as job (uncut job) moves Rapid k (as_rapid (move_at moves k).kind rapid) (accepts.good k there).stock tt j i point.column) (met_under job part moves ok all_ok over_top_is_removed k j i h point (may_leave (take k moves) j i h left)) is
+        (subst (λ (s : Solid). SolidHolds s n tip (pos 1) (column_point job j i h)) (deeper_is job.cutter (graze_of job) job.slack) deeper);
     covered = λ j i h point left. are_covered covered_below job part (stock_after job (uncut job) moves) (LeavesPoint job moves) (under_top job part moves ok all_ok over_top_is_removed moves all_ok) accepts.cut j i h point
         (may_leave moves j i h left);
-    fixtures = λ m a n fixture q p member moment there point inside.
-        misses_fixtures job part (uncut job) moves ok (uncut_ok job part moves ok all_ok) all_ok passing_is_clear (outer_of job) (outer_ok job ok) (λ k hk. (accepts.good k hk).fixtures) m a n fixture q p
-        member moment there point (between.outer n (tip_at m a n) q p inside);
+    fixtures = λ m n tip fixture q p member is there point inside.
+        misses_fixtures job part (uncut job) moves ok (uncut_ok job part moves ok all_ok) all_ok passing_is_clear (outer_of job) (outer_ok job ok) (λ k hk. (accepts.good k hk).fixtures) m n tip fixture q p
+        member is there point (between.outer n tip q p inside);
   }
 
 pub between_is_safe : BetweenIsSafe

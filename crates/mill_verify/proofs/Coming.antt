@@ -1,16 +1,18 @@
 -- A tool comes safely to the place where its moves begin: raised from a tip at which it is free it stays free, and so it is at or over the clear height.
-use Rattle.std.specs.Prelude.{◌≡◌, ◌⊎◌, zero, suc, ℤ, pos, negsuc, ◌+ℤ◌, ◌-ℤ◌, ◌*ℤ◌, ◌<ℤ◌, ◌≤ℤ◌, List, Contains, Option, Some, None, MatchOption, refl}
+use Rattle.std.specs.Prelude.{◌≡◌, ◌⊎◌, zero, suc, Bool, true, false, cond, int_lt, ℤ, pos, negsuc, ◌+ℤ◌, ◌-ℤ◌, ◌*ℤ◌, ◌<ℤ◌, ◌≤ℤ◌, List, Contains, Option, Some, None, MatchOption, refl}
 use Rattle.std.proofs.Common.{sym, subst, ap, inl, inr, ◌∙◌, arith}
 use Rattle.std.proofs.lemmas.Int.{ints}
 use Rattle.std.proofs.lemmas.List.Elements.{All-contains}
 use Rattle.mill_base.proofs.Extremes.{greater_least}
 use Rattle.mill_base.proofs.Integers.{mul_assoc-ℤ, mul_pos-ℤ, one-mul-ℤ}
 use Rattle.mill_base.specs.Covers.{IsUnder}
-use Rattle.mill_base.specs.Motion.{IsMoment, tip_at}
-use Rattle.mill_base.specs.Numbers.{greater}
+use Rattle.mill_base.proofs.Tips.{moment_in_box}
+use Rattle.mill_base.specs.Motion.{IsInBox, IsMoment, tip_at}
+use Rattle.mill_base.specs.Numbers.{greater, lesser}
 use Rattle.mill_base.specs.Points.{IsPointOf, highest, minus, point_at, times}
 use Rattle.mill_base.specs.Sizes.{radius_of}
 use Rattle.mill_base.specs.Solids.{IsSolid, Solid, SolidGouges, SolidHolds, higher, solid_tip}
+use Rattle.mill_base.specs.declared.motion.Move.{Move}
 use Rattle.mill_base.specs.declared.points.Pt3.{Pt3}
 use Rattle.mill_base.specs.declared.points.Tri.{Tri}
 use Rattle.mill_job.specs.Fixtures.{IsUnder as StandsUnder}
@@ -18,6 +20,8 @@ use Rattle.mill_job.specs.Jobs.{IsJob}
 use Rattle.mill_job.specs.Solids.{holder_solid_of, outer_of}
 use Rattle.mill_job.specs.declared.fields.JobFields.{JobFields}
 use Rattle.mill_job.specs.declared.fixtures.Fixture.{Fixture}
+use Rattle.mill_job.specs.declared.habits.Rapids.{Rapids}
+use Rattle.mill_job.specs.declared.habits.Rapids.TheVariants.{Straight, Axes}
 use Rattle.mill_job.proofs.Room.{over_fixtures, over_stock}
 use Rattle.mill_job.proofs.SolidFacts.{holder_lift, holder_solid_ok, outer_ok}
 use Rattle.mill_margin.proofs.Offsets.{offset_bounds}
@@ -27,7 +31,7 @@ use Rattle.mill_shape.proofs.Over.{inside_raised}
 use Rattle.mill_sweep.proofs.Halves.{under_highest}
 use Rattle.mill_sweep.proofs.Passing.{radius_least}
 use Rattle.mill_verify.specs.Claims.{HitsFixture, IsPointOfFixture}
-use Rattle.mill_verify.specs.Starts.{ComesSafely, IsFree, MayBegin, StartIsSafe, across, upright}
+use Rattle.mill_verify.specs.Starts.{IsFree, MayBeAt, MayBegin, StartIsSafe, across, upright}
 use Rattle.mill_verify.proofs.Mounted.{of_some}
 use Rattle.mill_verify.proofs.StartCerts.{lifted_lower, lower_denominator, lower_height, lower_offset, over_clear, rises_from, scaled_least, scaled_most, scaled_place, scaled_weights, stays_at, stays_clear}
 
@@ -154,6 +158,18 @@ one_times n a = mul_assoc-ℤ n (pos 1) a ∙ ap (λ (v : ℤ). n *ℤ v) (one-m
 scaled_height : (n a b : ℤ) → (pos 0) <ℤ n → a ≤ℤ b → (n *ℤ a) ≤ℤ (n *ℤ b)
 scaled_height n a b some h = subst (λ (v : ℤ). v ≤ℤ (n *ℤ b)) (one_times n a) (scaled_least n (pos 1) a b some (subst (λ (v : ℤ). v ≤ℤ b) (sym (one-mul-ℤ a)) h))
 
+lesser_same : (a : ℤ) → lesser a a ≡ a
+lesser_same a = by (int_lt a a)
+  where
+    by : (t : Bool) → cond t a a ≡ a
+    by true = refl
+    by false = refl
+
+-- the machine may have the tip nowhere but in the box of a move's two ends
+in_box : (rapids : Rapids) (m : Move) (d : ℤ) (t : Pt3) → MayBeAt rapids m d t → IsInBox m d t
+in_box Straight m d t way = subst (λ (v : Pt3). IsInBox m d v) (sym way.place) (moment_in_box m way.k d way.moment)
+in_box Axes m d t box = box
+
 at_least : (a b c : ℤ) → a ≤ℤ b → b ≤ℤ c → a ≤ℤ c
 at_least a b c h g = omega (arith, ints)
 
@@ -231,12 +247,12 @@ module _ (job : JobFields) (part : List Tri) (ok : IsJob job) (under : IsUnder p
       fixtures_free = neither (λ s. HitsFixture s m t job.keep_out) (holder_solid_of job) (hits_none (outer_of job) cutter_over) (λ s mounted. hits_none s (holder_over s mounted));
     }
 
-  -- at a moment k/d of the two ways
-  module _ (at : Pt3) (over : job.clear ≤ℤ at.z) (n : ℤ) (p : Pt3) (some : (pos 0) <ℤ n) (free : IsFree job part n p) (k d : ℤ) (moment : IsMoment k d) where
-    upright_at : MayBegin job at n p → IsFree job part (d *ℤ n) (tip_at (upright at n p) k d)
-    upright_at (inl high) =
+  module _ (at : Pt3) (over : job.clear ≤ℤ at.z) (n : ℤ) (p : Pt3) (some : (pos 0) <ℤ n) (free : IsFree job part n p) where
+    -- at a moment k/d of the way up or down
+    upright_at : (k d : ℤ) → IsMoment k d → MayBegin job at n p → IsFree job part (d *ℤ n) (tip_at (upright at n p) k d)
+    upright_at k d moment (inl high) =
         free_high (d *ℤ n) (tip_at (upright at n p) k d) (mul_pos-ℤ d n moment.some some) (stays_clear d k n job.clear p.z at.z moment.after moment.before some high over)
-    upright_at (inr raised) = free_over job part d n p (tip_at (upright at n p) k d) (record {
+    upright_at k d moment (inr raised) = free_over job part d n p (tip_at (upright at n p) k d) (record {
       d_some = moment.some;
       n_some = some;
       x_same = stays_at d k p.x;
@@ -244,13 +260,16 @@ module _ (job : JobFields) (part : List Tri) (ok : IsJob job) (under : IsUnder p
       z_least = rises_from d k n p.z at.z moment.after raised;
     }) free
 
-    across_at : IsFree job part (d *ℤ n) (tip_at (across at n p) k d)
-    across_at =
-        free_high (d *ℤ n) (tip_at (across at n p) k d) (mul_pos-ℤ d n moment.some some)
-        (stays_clear d k n job.clear (n *ℤ at.z) at.z moment.after moment.before some (scaled_height n job.clear at.z some over) over)
+    -- across, anywhere in the box, which is as flat as both ends are high
+    across_at : (d : ℤ) (t : Pt3) → IsInBox (across at n p) d t → IsFree job part (d *ℤ n) t
+    across_at d t box = free_high (d *ℤ n) t (mul_pos-ℤ d n box.some some)
+        (at_least ((d *ℤ n) *ℤ job.clear) (d *ℤ lesser (n *ℤ at.z) (n *ℤ at.z)) t.z
+        (rw (mul_assoc-ℤ d n job.clear) (scaled_height d (n *ℤ job.clear) (lesser (n *ℤ at.z) (n *ℤ at.z)) box.some
+        (subst (λ (v : ℤ). (n *ℤ job.clear) ≤ℤ v) (sym (lesser_same (n *ℤ at.z))) (scaled_height n job.clear at.z some over))))
+        box.z.least)
 
 pub start_is_safe : StartIsSafe
 start_is_safe job part at ok under over n p some free may = record {
   upright_free = λ k d moment. upright_at job part ok under at over n p some free k d moment may;
-  across_free = λ k d moment. across_at job part ok under at over n p some free k d moment;
+  across_free = λ d t there. across_at job part ok under at over n p some free d t (in_box job.rapids (across at n p) d t there);
 }

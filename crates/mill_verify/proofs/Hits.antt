@@ -13,9 +13,8 @@ use Rattle.mill_base.specs.declared.unit.Unit.{Unit}
 use Rattle.mill_cells.specs.Boxes.{IsIn, Meet, box_of}
 use Rattle.mill_job.specs.Fixtures.{IsFixture}
 use Rattle.mill_job.specs.declared.fixtures.Fixture.{Fixture}
-use Rattle.mill_sweep.specs.Halving.{Blocks, FailsAt, Passes}
-use Rattle.mill_sweep.specs.Leaves.{span_of}
-use Rattle.mill_sweep.specs.Reach.{low_end_of}
+use Rattle.mill_sweep.specs.Passing.{FailsAt, IsBlocked, Passes}
+use Rattle.mill_sweep.specs.Apart.{low_end_of}
 use Rattle.mill_sweep.specs.Sweeps.{Swept}
 use Rattle.mill_sweep.specs.declared.leaf.Leaf.{Leaf}
 use Rattle.mill_sweep.proofs.Solids.{out_of_reach_passes}
@@ -106,7 +105,7 @@ passes_more solid m fixtures n before here b under = elim (cases_lt b n) [
 
 -- what a sweep of the solid says of a triangle
 abbrev pub Tells : Swept → Tri → Leaf → Type 0
-Tells swept tri leaf = FailsAt swept.cutter swept.move tri leaf × Blocks swept.cutter (span_of swept.move leaf.d leaf.k) tri
+Tells swept tri leaf = FailsAt swept.cutter swept.move tri leaf × IsBlocked swept.cutter swept.move tri leaf
 
 module _ (solid : Solid) (m : Move) (f : Fixture) (swept : Swept) where
   -- the first triangle's leaf

@@ -1,6 +1,7 @@
 -- A leaf that a rejection names is one of the last of its move, and blocked.
 use Rattle.std.specs.Prelude.{◌≡◌, ℕ, ◌<◌, ◌≤◌, List, length, Some}
 use Rattle.std.proofs.Common.{inl, inr}
+use Rattle.mill_base.specs.Motion.{IsStraight}
 use Rattle.mill_base.specs.Points.{point_tri, tri_at}
 use Rattle.mill_base.specs.Ranges.{MoveInRange, MovesInRange}
 use Rattle.mill_base.specs.Solids.{IsSolid, Solid}
@@ -49,7 +50,7 @@ module _ (failing_is_blocked : FailingIsBlocked) (job : JobFields) (part : List 
   }
 
   -- a fixture's: whichever of its triangles the test fails at
-  last_of : (solid : Solid) → IsSolid solid → (k : ℕ) (box : Stands) (leaf : Leaf) → k < length moves → FailsFixture solid (move_at moves k) box leaf → reach_of (move_at moves k) leaf.d leaf.k ≤ MAX_LAST_REACH
+  last_of : (solid : Solid) → IsSolid solid → (k : ℕ) (box : Stands) (leaf : Leaf) → k < length moves → FailsFixture solid (move_at moves k) box leaf → IsStraight (move_at moves k) → reach_of (move_at moves k) leaf.d leaf.k ≤ MAX_LAST_REACH
   last_of solid ok k box leaf there fails = elim fails [
     | inl first ↦ (failing_is_blocked solid (move_at moves k) (first_half box) leaf ok (in_range k there) first).0
     | inr second ↦ (failing_is_blocked solid (move_at moves k) (second_half box) leaf ok (in_range k there) second.1).0

@@ -1,11 +1,12 @@
 -- Without a slack the real tip is the program's, and without overcut and graze the cutter's core is the cutter.
-use Rattle.std.specs.Prelude.{◌≡◌, ℕ, ◌<◌, ℤ, pos, ◌-ℤ◌, ◌*ℤ◌, ◌<ℤ◌, ◌≤ℤ◌, List, Contains, length, take, Option, Some, None, IfSome}
+use Rattle.std.specs.Prelude.{◌≡◌, ◌≢◌, ℕ, ◌<◌, ℤ, pos, ◌-ℤ◌, ◌*ℤ◌, ◌<ℤ◌, ◌≤ℤ◌, List, Contains, length, take, Option, Some, None, IfSome}
 use Rattle.std.proofs.Common.{◌∙◌, refl, ap, sym, subst, arith}
 use Rattle.std.proofs.lemmas.Int.{ints}
 use lib.IntN.{*ℤ_comm}
 use Rattle.mill_base.proofs.Integers.{zero-mul-ℤ}
-use Rattle.mill_base.specs.Contact.{GougesOn, IsRemoved, Removes}
-use Rattle.mill_base.specs.Motion.{IsMoment, tip_at}
+use Rattle.mill_base.specs.Contact.{GougesOn, IsRemoved, MayRemove}
+use Rattle.mill_base.proofs.Tips.{sure_is_tip, tip_some}
+use Rattle.mill_base.specs.Motion.{IsTipOf, tip_at}
 use Rattle.mill_base.specs.Numbers.{square}
 use Rattle.mill_base.specs.Solids.{Solid, SolidGouges, SolidHolds, at_tip}
 use Rattle.mill_base.specs.declared.motion.Move.{Move}
@@ -15,7 +16,7 @@ use Rattle.mill_job.specs.Slack.{graze_of}
 use Rattle.mill_job.specs.Solids.{inner_of}
 use Rattle.mill_base.specs.Covers.{HasPointOver}
 use Rattle.mill_job.specs.Columns.{column_x, column_y}
-use Rattle.mill_base.specs.declared.motion.Kind.TheVariants.{Feed, Rapid}
+use Rattle.mill_base.specs.declared.motion.Kind.TheVariants.{Feed}
 use Rattle.mill_verify.specs.Tests.{stock_met}
 use Rattle.mill_job.specs.declared.fields.JobFields.{JobFields}
 use Rattle.mill_job.proofs.NoSlack.{bare_inner}
@@ -47,12 +48,12 @@ at_itself : (n : ℤ) (t : Pt3) → IsWithin (pos 0) n t n t
 at_itself n t = record { near = rw (no_way n t.x, no_way n t.y, no_way n t.z) (no_length n) }
 
 -- so the program's tip is a real one
-real_tip : (m : Move) (a n : ℤ) → IsMoment a n → IsRealTip (pos 0) m n (tip_at m a n)
-real_tip m a n moment = record { some = moment.some; k = a; d = n; moment = moment; near = at_itself n (tip_at m a n) }
+real_tip : (m : Move) (n : ℤ) (tip : Pt3) → IsTipOf m n tip → IsRealTip (pos 0) m n tip
+real_tip m n tip is = record { some = tip_some m n tip is; d = n; tip = tip; is = is; near = at_itself n tip }
 
 module _ (job : JobFields) (plain : IsPlain job) where
-  tip_is : (m : Move) (a n : ℤ) → IsMoment a n → IsRealTip job.slack m n (tip_at m a n)
-  tip_is m a n moment = subst (λ (s : ℤ). IsRealTip s m n (tip_at m a n)) (sym plain.no_slack) (real_tip m a n moment)
+  tip_is : (m : Move) (n : ℤ) (tip : Pt3) → IsTipOf m n tip → IsRealTip job.slack m n tip
+  tip_is m n tip is = subst (λ (s : ℤ). IsRealTip s m n tip) (sym plain.no_slack) (real_tip m n tip is)
 
   overcut_core : core job job.overcut ≡ at_tip job.cutter
   overcut_core = ap (λ (d : ℤ). core job d) plain.no_overcut ∙ bare_inner job.cutter
@@ -76,39 +77,39 @@ module _ (job : JobFields) (plain : IsPlain job) where
   module _ (part : List Tri) (moves : List Move) (safe : CutsSafely job part moves) where
     gouges : (m : Move) → Contains moves m → ¬ GougesOn job.cutter m part
     gouges m member g =
-        safe.gouges m g.m (tip_at m g.k g.m) member (tip_is m g.k g.m g.moment) (subst (λ (s : Solid). SolidGouges s g.m (tip_at m g.k g.m) part) (sym overcut_core) g.gouges)
+        safe.gouges m g.m g.tip member (tip_is m g.m g.tip g.is) (subst (λ (s : Solid). SolidGouges s g.m g.tip part) (sym overcut_core) g.gouges)
 
-    rapids : (k j i : ℕ) (h : ℤ) → k < length moves → (move_at moves k).kind ≡ Rapid → IsColumnPoint job j i h → StaysLeft job (take k moves) j i h
-        → ¬ Removes job.cutter (move_at moves k) (pos 1) (column_point job j i h)
+    rapids : (k j i : ℕ) (h : ℤ) → k < length moves → (move_at moves k).kind ≢ Feed → IsColumnPoint job j i h → StaysLeft job (take k moves) j i h
+        → ¬ MayRemove job.cutter (move_at moves k) (pos 1) (column_point job j i h)
     rapids k j i h there rapid point left r =
-        safe.rapids k j i h r.m (tip_at (move_at moves k) r.k r.m) there rapid point (left_too (take k moves) j i h left) (tip_is (move_at moves k) r.k r.m r.moment)
-        (subst (λ (s : Solid). SolidHolds s r.m (tip_at (move_at moves k) r.k r.m) (pos 1) (column_point job j i h)) (sym graze_core) r.inside)
+        safe.rapids k j i h r.m r.tip there rapid point (left_too (take k moves) j i h left) (tip_is (move_at moves k) r.m r.tip r.is)
+        (subst (λ (s : Solid). SolidHolds s r.m r.tip (pos 1) (column_point job j i h)) (sym graze_core) r.inside)
 
     kept : (j i : ℕ) (h : ℤ) → IsColumnPoint job j i h → HasPointOver part (pos 0) (column_x job i) (column_y job j) h → StaysLeft job moves j i h
     kept j i h point stands removed =
         let r = removed.removes in
-        safe.kept removed.move j i h r.m (tip_at removed.move r.k r.m) removed.member point stands (tip_is removed.move r.k r.m r.moment)
+        safe.kept removed.move j i h r.m (tip_at removed.move r.k r.m) removed.member point stands (tip_is removed.move r.m (tip_at removed.move r.k r.m) (sure_is_tip removed.move r.k r.m r.moment))
         (subst (λ (s : Solid). SolidHolds s r.m (tip_at removed.move r.k r.m) (pos 1) (column_point job j i h)) (sym overcut_core) r.inside)
 
     depth : (pos 0) <ℤ job.max_cut → CutsNoDeeper job (uncut job) moves
     depth limited = record { feeds = feeds; tops = (safe.depth limited).tops plain.no_graze }
       where
         feeds : (k j i : ℕ) (h : ℤ) → k < length moves → (move_at moves k).kind ≡ Feed → IsColumnPoint job j i h → h ≤ℤ (stock_met job (uncut job) moves k j i -ℤ job.max_cut)
-            → ¬ Removes job.cutter (move_at moves k) (pos 1) (column_point job j i h)
+            → ¬ MayRemove job.cutter (move_at moves k) (pos 1) (column_point job j i h)
         feeds k j i h there feed point deep r =
-            (safe.depth limited).feeds k j i h r.m (tip_at (move_at moves k) r.k r.m) there feed point deep (tip_is (move_at moves k) r.k r.m r.moment)
-            (subst (λ (s : Solid). SolidHolds s r.m (tip_at (move_at moves k) r.k r.m) (pos 1) (column_point job j i h)) (sym graze_core) r.inside)
+            (safe.depth limited).feeds k j i h r.m r.tip there feed point deep (tip_is (move_at moves k) r.m r.tip r.is)
+            (subst (λ (s : Solid). SolidHolds s r.m r.tip (pos 1) (column_point job j i h)) (sym graze_core) r.inside)
 
     holder : (o : Option Solid) → IfSome o (λ holder. HolderStaysClear holder job part moves (left_before job moves)) → IfSome o (λ holder. HolderTouchesNothing holder job part moves)
     holder None clear = tt
     holder (Some s) clear = record {
-      misses_part = λ m a n member moment. clear.misses_part m n (tip_at m a n) member (tip_is m a n moment);
-      misses_stock = λ k j i h a n there point left moment.
-          clear.misses_stock k j i h n (tip_at (move_at moves k) a n) there point (left_too (take k moves) j i h left) (tip_is (move_at moves k) a n moment);
+      misses_part = λ m n tip member is. clear.misses_part m n tip member (tip_is m n tip is);
+      misses_stock = λ k j i h n tip there point left is.
+          clear.misses_stock k j i h n tip there point (left_too (take k moves) j i h left) (tip_is (move_at moves k) n tip is);
     }
 
     off : (solid : Solid) → KeepsOff solid job moves → StaysOff solid job moves
-    off solid keeps m a n member moment hit = keeps m n (tip_at m a n) member (tip_is m a n moment) hit
+    off solid keeps m n tip member is hit = keeps m n tip member (tip_is m n tip is) hit
 
     cuts_plainly : CutsPlainly job part moves
     cuts_plainly = record {

@@ -12,7 +12,8 @@ use Rattle.mill_base.specs.declared.motion.Move.{Move}
 use Rattle.mill_base.specs.declared.motion.Kind.{Kind}
 use Rattle.mill_base.specs.declared.motion.Kind.TheVariants.{Rapid}
 use Rattle.mill_base.specs.Numbers.{square}
-use Rattle.mill_base.specs.Motion.{IsMoment, tip_at}
+use Rattle.mill_base.proofs.Tips.{tip_some}
+use Rattle.mill_base.specs.Motion.{IsTipOf}
 use Rattle.mill_base.specs.Solids.{IsSolid, Solid, SolidGouges, SolidHolds, at_tip, solid_tip}
 use Rattle.mill_base.specs.Sizes.{IsCutter}
 use Rattle.mill_base.specs.Contact.{Holds, HoldsOver}
@@ -42,7 +43,7 @@ use Rattle.mill_dexel.proofs.TopLaws.{stock_stays, uncut_stays}
 use Rattle.mill_base.proofs.Ranges.{within_of_unit}
 use Rattle.mill_verify.proofs.Mounted.{if_some, of_some}
 use Rattle.mill_verify.proofs.Ranges.{column_within, stock_within}
-use Rattle.mill_verify.proofs.Depths.{clears_as, tested_deep, tested_each, tested_high, tested_within}
+use Rattle.mill_verify.proofs.Depths.{as_rapid, clears_as, tested_deep, tested_each, tested_high, tested_within}
 use Rattle.mill_verify.specs.Tests.{GoodBeforeOn, IsCutOn, PassesColumnOn, stock_met}
 use Rattle.mill_dexel.specs.Turns.{move_at}
 use Rattle.mill_base.specs.Points.{point_at, tri_at}
@@ -124,11 +125,11 @@ slack_most job ok = let most = ok.slack_ok.high in omega (most, arith, ints)
 
 -- what a solid holds at a real tip, it holds with the slack around it where the program has the tip
 module _ (law : GrownHolds) (job : JobFields) (ok : IsJob job) (solid : Solid) (size : IsCutter solid.cutter) (m : Move) (n : ℤ) (r : Pt3) (real : IsRealTip job.slack m n r) where
-  grown_holds : (q : ℤ) (p : Pt3) → (pos 0) <ℤ q → SolidHolds solid n r q p → SolidHolds (grown solid job.slack) real.d (tip_at m real.k real.d) q p
+  grown_holds : (q : ℤ) (p : Pt3) → (pos 0) <ℤ q → SolidHolds solid n r q p → SolidHolds (grown solid job.slack) real.d real.tip q p
   grown_holds q p some holds =
-      law solid job.slack real.d n q (tip_at m real.k real.d) r p size (slack_least job ok) (slack_most job ok) real.moment.some real.some some real.near holds
+      law solid job.slack real.d n q real.tip r p size (slack_least job ok) (slack_most job ok) (tip_some m real.d real.tip real.is) real.some some real.near holds
 
-  grown_gouges : (part : List Tri) → SolidGouges solid n r part → SolidGouges (grown solid job.slack) real.d (tip_at m real.k real.d) part
+  grown_gouges : (part : List Tri) → SolidGouges solid n r part → SolidGouges (grown solid job.slack) real.d real.tip part
   grown_gouges part g = record {
     tri = g.tri;
     member = g.member;
@@ -151,37 +152,37 @@ module _ (job : JobFields) (part : List Tri) (start : Stock) (moves : List Move)
   tested_ok : (kind : Kind) (k j i : ℕ) → IsColumn job j i → IsInRange (tested_point_on job kind (stock_met job start moves k) j i)
   tested_ok kind k j i c = column_within ok c (tested_within kind (stock_met job start moves k j i) ok (met_ok k j i c))
 
-  -- a solid that passes the part on each move has no part point strictly inside at any moment of any
+  -- a solid that passes the part on each move has no part point strictly inside wherever the tip may be
   module _ (clear : PassingIsClear) (solid : Solid) (solid_ok : IsSolid solid) (each : (k : ℕ) → k < length moves → PassesPart solid (move_at moves k) part) where
     passes : (k t : ℕ) (m : Move) (tri : Tri) → k < length moves → slice_index_or moves k m ≡ m → t < length part → slice_index_or part t tri ≡ tri → SolidPasses solid m tri
     passes k t m tri hk ek ht et =
         let q : SolidPasses solid m (tri_at part t) = subst (λ (v : Move). SolidPasses solid v (tri_at part t)) (sym (move_is moves k m hk ek)) (each k hk t ht) in
         subst (λ (v : Tri). SolidPasses solid m v) (sym (tri_is part t tri ht et)) q
 
-    pub misses_part : (m : Move) (a n : ℤ) → Contains moves m → IsMoment a n → ¬ SolidGouges solid n (tip_at m a n) part
-    misses_part m a n member moment g =
-        clear solid m g.tri a n solid_ok (all_ok m member) (passes member.0 g.member.0 m g.tri member.1 member.2 g.member.1 g.member.2) moment g.touches
+    pub misses_part : (m : Move) (n : ℤ) (tip : Pt3) → Contains moves m → IsTipOf m n tip → ¬ SolidGouges solid n tip part
+    misses_part m n tip member is g =
+        clear solid m g.tri n tip solid_ok (all_ok m member) (passes member.0 g.member.0 m g.tri member.1 member.2 g.member.1 g.member.2) is g.touches
 
-  -- one that passes each fixture on each move has no point of a fixture strictly inside at any moment of any
+  -- one that passes each fixture on each move has no point of a fixture strictly inside wherever the tip may be
   module _ (clear : PassingIsClear) (solid : Solid) (solid_ok : IsSolid solid) (each : (k : ℕ) → k < length moves → PassesFixtures solid (move_at moves k) job.keep_out) where
     passes_box : (k b : ℕ) (m : Move) (f : Fixture) → k < length moves → slice_index_or moves k m ≡ m → b < length job.keep_out → slice_index_or job.keep_out b f ≡ f → PassesFixture solid m f
     passes_box k b m f hk ek hb eb =
         let q : PassesFixture solid m (fixture_at job.keep_out b) = subst (λ (v : Move). PassesFixture solid v (fixture_at job.keep_out b)) (sym (move_is moves k m hk ek)) (each k hk b hb) in
         subst (λ (v : Fixture). PassesFixture solid m v) (sym (fixture_is job.keep_out b f hb eb)) q
 
-    pub misses_fixtures : (m : Move) (a n : ℤ) (f : Fixture) (q : ℤ) (p : Pt3) → Contains moves m → IsMoment a n → Contains job.keep_out f → IsPointOfFixture f q p → ¬ SolidHolds solid n (tip_at m a n) q p
-    misses_fixtures m a n f q p member moment there point holds =
+    pub misses_fixtures : (m : Move) (n : ℤ) (tip : Pt3) (f : Fixture) (q : ℤ) (p : Pt3) → Contains moves m → IsTipOf m n tip → Contains job.keep_out f → IsPointOfFixture f q p → ¬ SolidHolds solid n tip q p
+    misses_fixtures m n tip f q p member is there point holds =
         let passed = passes_box member.0 there.0 m f member.1 member.2 there.1 there.2 in
-        elim (touches_face f q p point solid.cutter n (solid_tip solid n (tip_at m a n)) moment.some holds) [
-          | inl first ↦ clear solid m (first_half f) a n solid_ok (all_ok m member) passed.first moment first
-          | inr second ↦ clear solid m (second_half f) a n solid_ok (all_ok m member) passed.second moment second
+        elim (touches_face f q p point solid.cutter n (solid_tip solid n tip) (tip_some m n tip is) holds) [
+          | inl first ↦ clear solid m (first_half f) n tip solid_ok (all_ok m member) passed.first is first
+          | inr second ↦ clear solid m (second_half f) n tip solid_ok (all_ok m member) passed.second is second
         ]
 
   -- so it is, at each real tip, of a solid that passes them with the slack around it
   keeps_off : GrownHolds → PassingIsClear → (solid : Solid) → IsCutter solid.cutter → IsSolid (grown solid job.slack)
       → ((k : ℕ) → k < length moves → PassesFixtures (grown solid job.slack) (move_at moves k) job.keep_out) → KeepsOff solid job moves
   keeps_off law clear solid size solid_ok each m n r member real hit =
-      misses_fixtures clear (grown solid job.slack) solid_ok each m real.k real.d hit.fixture hit.n hit.p member real.moment hit.member hit.point
+      misses_fixtures clear (grown solid job.slack) solid_ok each m real.d real.tip hit.fixture hit.n hit.p member real.is hit.member hit.point
       (grown_holds law job ok solid size m n r real hit.n hit.p hit.point.some hit.inside)
 
   -- of the cutter, and of the holder, if there is one
@@ -200,7 +201,7 @@ module _ (job : JobFields) (part : List Tri) (start : Stock) (moves : List Move)
   -- nor is a part point inside the cutter's core at a real tip
   pub never_gouges : GrownHolds → PassingIsClear → GoodBeforeOn job part start moves (length moves) → NeverGouges job part moves
   never_gouges law clear good m n r member real g =
-      misses_part clear (part_solid_of job) (part_solid_ok job ok) (λ k hk. (good k hk).clears) m real.k real.d member real.moment
+      misses_part clear (part_solid_of job) (part_solid_ok job ok) (λ k hk. (good k hk).clears) m real.d real.tip member real.is
       (grown_gouges law job ok (core job job.overcut) (overcut_core_ok job ok) m n r real part g)
 
   pub keeps_part : GrownHolds → PassingIsClear → HoldsOver → GoodBeforeOn job part start moves (length moves) → KeepsPart job part moves
@@ -209,8 +210,8 @@ module _ (job : JobFields) (part : List Tri) (start : Stock) (moves : List Move)
 
   pub rapids_miss : GrownHolds → PassingKeepsPoint → (Met : PointsMet) → AreUnderTop job start moves Met → GoodBeforeOn job part start moves (length moves) → RapidsMiss job moves Met
   rapids_miss law keeps Met under good k j i h n r hk rapid point met real holds =
-      keeps (stock_solid_of job) (move_at moves k) (column_x job i) (column_y job j) (stock_met job start moves k j i) h real.k real.d (stock_solid_ok job ok)
-      (in_range k hk) (top_ok k j i point.column) (clears_as job start moves Rapid k rapid (good k hk).stock tt j i point.column) (under k j i h point met) real.moment
+      keeps (stock_solid_of job) (move_at moves k) (column_x job i) (column_y job j) (stock_met job start moves k j i) h real.d real.tip (stock_solid_ok job ok)
+      (in_range k hk) (top_ok k j i point.column) (clears_as job start moves Rapid k (as_rapid (move_at moves k).kind rapid) (good k hk).stock tt j i point.column) (under k j i h point met) real.is
       (grown_holds law job ok (core job (graze_of job)) (graze_core_ok job ok) (move_at moves k) n r real (pos 1) (column_point job j i h) (omega (arith, ints)) holds)
 
   -- where the depth of cut is limited
@@ -228,8 +229,8 @@ module _ (job : JobFields) (part : List Tri) (start : Stock) (moves : List Move)
     cuts_shallow law keeps k j i h n r hk point deep real holds =
         let kind = (move_at moves k).kind in
         let top = stock_met job start moves k j i in
-        keeps (stock_solid_of job) (move_at moves k) (column_x job i) (column_y job j) (tested_height job kind top) h real.k real.d (stock_solid_ok job ok) (in_range k hk)
-        (tested_ok kind k j i point.column) (passes_each k j i hk point.column) (at_most _ _ _ deep (tested_deep job kind top limited)) real.moment
+        keeps (stock_solid_of job) (move_at moves k) (column_x job i) (column_y job j) (tested_height job kind top) h real.d real.tip (stock_solid_ok job ok) (in_range k hk)
+        (tested_ok kind k j i point.column) (passes_each k j i hk point.column) (at_most _ _ _ deep (tested_deep job kind top limited)) real.is
         (grown_holds law job ok (core job (graze_of job)) (graze_core_ok job ok) (move_at moves k) n r real (pos 1) (column_point job j i h) (omega (arith, ints)) holds)
 
     -- one move more lowers a top by that move
@@ -273,7 +274,7 @@ module _ (job : JobFields) (part : List Tri) (start : Stock) (moves : List Move)
 
     misses_all : GrownHolds → PassingIsClear → (m : Move) (n : ℤ) (r : Pt3) → Contains moves m → IsRealTip job.slack m n r → ¬ SolidGouges holder n r part
     misses_all law clear m n r member real g =
-        misses_part clear (grown holder job.slack) around_ok holder_passes m real.k real.d member real.moment (grown_gouges law job ok holder size m n r real part g)
+        misses_part clear (grown holder job.slack) around_ok holder_passes m real.d real.tip member real.is (grown_gouges law job ok holder size m n r real part g)
 
     -- and each column's top
     misses_stock : GrownHolds → PassingKeepsPoint → (k j i : ℕ) (h n : ℤ) (r : Pt3) → k < length moves → IsColumnPoint job j i h → Met k j i h → IsRealTip job.slack (move_at moves k) n r
@@ -281,8 +282,8 @@ module _ (job : JobFields) (part : List Tri) (start : Stock) (moves : List Move)
     misses_stock law keeps k j i h n r hk point met real holds =
         let each = of_some (λ (v : Solid). (b c : ℕ) → IsColumn job b c → SolidPassesPoint v (move_at moves k) (top_point_on job (stock_met job start moves k) b c)) (holder_solid_of job)
         (grown holder job.slack) with_slack (good k hk).holder_stock in
-        keeps (grown holder job.slack) (move_at moves k) (column_x job i) (column_y job j) (stock_met job start moves k j i) h real.k real.d around_ok
-        (in_range k hk) (top_ok k j i point.column) (each j i point.column) (under k j i h point met) real.moment
+        keeps (grown holder job.slack) (move_at moves k) (column_x job i) (column_y job j) (stock_met job start moves k j i) h real.d real.tip around_ok
+        (in_range k hk) (top_ok k j i point.column) (each j i point.column) (under k j i h point met) real.is
         (grown_holds law job ok holder size (move_at moves k) n r real (pos 1) (column_point job j i h) (omega (arith, ints)) holds)
 
     stays_clear : GrownHolds → PassingIsClear → PassingKeepsPoint → HolderStaysClear holder job part moves Met

@@ -5,17 +5,19 @@ use Rattle.std.proofs.Common.{sym, ◌∙◌, ap, subst, inl, inr, ⊎_elim, ari
 use Rattle.mill_base.specs.declared.points.Tri.{Tri}
 use Rattle.mill_base.specs.declared.motion.Move.{Move}
 use Rattle.mill_base.specs.declared.motion.Kind.{Kind}
-use Rattle.mill_base.specs.declared.motion.Kind.TheVariants.{Rapid, Feed}
+use Rattle.mill_base.specs.declared.motion.Kind.TheVariants.{Rapid, Feed, Dogleg}
 use Rattle.mill_base.specs.declared.limits.TheConstants.{MAX_MOVES}
 use Rattle.mill_board.specs.declared.work.Held.{Held}
 use Rattle.mill_board.specs.Works.{FailsAt, IsDone}
 use Rattle.mill_board.proofs.Outcomes.{fails_least, passes_all, passes_to, passes_under}
 use Rattle.mill_base.specs.Solids.{Solid}
 use Rattle.mill_base.specs.Points.{point_tri, tri_at}
-use Rattle.mill_sweep.specs.Solids.{SolidIsBlocked, SolidPassesPoint}
-use Rattle.mill_dexel.specs.Tops.{Stock as OneStock, top_point_on}
+use Rattle.mill_base.specs.declared.points.Pt3.{Pt3}
+use Rattle.mill_sweep.specs.Solids.{SolidFailsAt, SolidIsBlocked, SolidPassesPoint}
+use Rattle.mill_dexel.specs.Tops.{Stock as OneStock, tested_as, top_point_on}
+use Rattle.mill_dexel.proofs.TestedAs.{is_tested_as, point_as}
 use Rattle.mill_sweep.specs.declared.leaf.Leaf.{Leaf}
-use Rattle.mill_job.specs.Solids.{holder_solid_of}
+use Rattle.mill_job.specs.Solids.{holder_solid_of, stock_solid_of}
 use Rattle.mill_job.specs.declared.fields.JobFields.{JobFields}
 use Rattle.mill_job.specs.Columns.{row_count}
 use Rattle.mill_job.specs.Jobs.{IsJob}
@@ -286,9 +288,10 @@ module _ (job : JobFields) (part : List Tri) (start : Option (List RowState)) (m
       ];
     }
 
-    kind_rejects : (v : Kind) (j i : ℕ) (leaf : Leaf) → FailsStockOn job part stock moves v least j i leaf → StopsAt job stock moves v least j i leaf → Rejects (cut_reason v least j i leaf)
+    kind_rejects : (v : Kind) (j i : ℕ) (leaf : Leaf) → FailsStockOn job part stock moves (tested_as v) least j i leaf → StopsAt job stock moves (tested_as v) least j i leaf → Rejects (cut_reason v least j i leaf)
     kind_rejects Rapid j i leaf fails stops = record { of_move = tt; rejects = fails; shown = stops }
     kind_rejects Feed j i leaf fails stops = record { of_move = tt; rejects = fails; shown = stops }
+    kind_rejects Dogleg j i leaf fails stops = record { of_move = tt; rejects = fails; shown = stops }
 
     -- the pieces of these numbers have failed in no way but by the holder's test of a row
     abbrev NoCut : ℕ → Type 0
@@ -315,6 +318,7 @@ module _ (job : JobFields) (part : List Tri) (start : Option (List RowState)) (m
         let s = row_stops job stock moves least j (cutting job kind (move_at moves least)) i leaf stop.column stop.blocked in
         let u = under in
         let clear = block_passed n none (omega (number, arith)) in
+        let here = point_as job kind (stock_met job stock moves least) j i in
         kind_rejects kind j i leaf
         (record {
           there = move_there;
@@ -325,15 +329,15 @@ module _ (job : JobFields) (part : List Tri) (start : Option (List RowState)) (m
           fixtures = clear.passes_fixtures.cutter;
           holder_fixtures = clear.passes_fixtures.holder;
           is = refl;
-          tested = stop.tested;
+          tested = is_tested_as job kind stop.tested;
           column = record { row = omega (number, u, arith); column = s.column };
           first = λ a b column order. elim order [
             | inl less ↦ row_cut n a none (omega (less, number, arith)) column.row stop.tested b column.column
             | inr same ↦ subst (λ (v : ℕ). PassesColumnOn job stock moves least v b) (sym same.0) (s.before b same.1)
           ];
-          fails = s.fails;
+          fails = subst (λ (p : Pt3). SolidFailsAt (stock_solid_of job) (move_at moves least) (point_tri p) leaf) here s.fails;
         })
-        s.blocked
+        (subst (λ (p : Pt3). SolidIsBlocked (stock_solid_of job) (move_at moves least) (point_tri p) leaf) here s.blocked)
 
     -- a row before it that failed in neither way passes the holder's test
     row_passed : (a : ℕ) → NoCut (length hs) → NoneFailedBy test.Holder least hs n → blocks_of w + a < n → RowHolderClears job stock moves least a

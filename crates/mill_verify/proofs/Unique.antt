@@ -15,7 +15,7 @@ use Rattle.mill_job.specs.Solids.{holder_solid_of, outer_of, part_solid_of, stoc
 use Rattle.mill_job.specs.declared.fields.JobFields.{JobFields}
 use Rattle.mill_job.specs.declared.fixtures.Fixture.{Fixture as Stands}
 use Rattle.mill_job.specs.Columns.{IsBefore, IsColumn}
-use Rattle.mill_dexel.specs.Tops.{Stock, stock_after, tested_point_on, top_point_on}
+use Rattle.mill_dexel.specs.Tops.{Stock, stock_after, tested_as, tested_point_on, top_point_on}
 use Rattle.mill_obstacles.specs.Faces.{first_half, second_half}
 use Rattle.mill_verify.specs.Fixtures.{FailsFixture, PassesFixture, PassesFixtures, fixture_at}
 use Rattle.mill_verify.specs.Tests.{ClearsFixtures, ClearsPart, ClearsStockOn, GoodBeforeOn, HolderClearsFixtures, HolderClearsPart, HolderClearsStockOn, IsGoodOn, IsOverFloor, stock_met}
@@ -194,11 +194,11 @@ module _ (job : JobFields) (part : List Tri) (start : Stock) (moves : List Move)
       let q : a ≡ b = leaf_is_one h.holder.cutter (lifted h.holder (move_at moves k)) tri a b h.fails (subst (λ (v : Solid). SolidFailsAt v (move_at moves k) tri b) same g4.fails) in
       ap (λ (n : ℕ). HolderStock n j i a) e ∙ ap (λ (n : ℕ). HolderStock l n i a) f.0 ∙ ap (λ (n : ℕ). HolderStock l c n a) f.1 ∙ ap (λ (x : Leaf). HolderStock l c d x) q
 
-  -- no move is both a Rapid and a Feed
+  -- no move is tested both as a Rapid and as a Feed
   two_kinds : (k l j i c d : ℕ) (a b : Leaf) → FailsStockOn job part start moves Rapid k j i a → FailsStockOn job part start moves Feed l c d b → ⊥
   two_kinds k l j i c d a b h g =
       let same : k ≡ l = one_stop k l (stops_stock Rapid k j i a h) (stops_stock Feed l c d b g) in
-      not_alike (sym h.is ∙ ap (λ (n : ℕ). (move_at moves n).kind) same ∙ g.is)
+      not_alike (sym h.is ∙ ap (λ (n : ℕ). tested_as (move_at moves n).kind) same ∙ g.is)
 
   same_left : (j i c d : ℕ) (s t : ℤ) → FailsCutOn job part start moves j i s → FailsCutOn job part start moves c d t → Left j i s ≡ Left c d t
   same_left j i c d s t h g =

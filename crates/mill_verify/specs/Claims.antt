@@ -1,11 +1,11 @@
--- What an accepted program does, wherever within the slack the machine's own tip is at each moment of each move.
-use Rattle.std.specs.Prelude.{◌≡◌, ℕ, ◌+◌, ◌<◌, ℤ, pos, ◌-ℤ◌, ◌*ℤ◌, ◌<ℤ◌, ◌≤ℤ◌, List, Contains, length, take, IfSome}
+-- What an accepted program does, wherever within the slack of the tip the machine's own one is on each move.
+use Rattle.std.specs.Prelude.{◌≡◌, ◌≢◌, ℕ, ◌+◌, ◌<◌, ℤ, pos, ◌-ℤ◌, ◌*ℤ◌, ◌<ℤ◌, ◌≤ℤ◌, List, Contains, length, take, IfSome}
 use Rattle.mill_base.specs.declared.points.Pt3.{Pt3}
 use Rattle.mill_base.specs.declared.points.Tri.{Tri}
 use Rattle.mill_base.specs.declared.motion.Move.{Move}
-use Rattle.mill_base.specs.declared.motion.Kind.TheVariants.{Rapid, Feed}
+use Rattle.mill_base.specs.declared.motion.Kind.TheVariants.{Feed}
 use Rattle.mill_base.specs.Points.{point_at}
-use Rattle.mill_base.specs.Motion.{IsMoment, tip_at}
+use Rattle.mill_base.specs.Motion.{IsTipOf}
 use Rattle.mill_base.specs.Solids.{Solid, SolidGouges, SolidHolds, at_tip}
 use Rattle.mill_base.specs.Covers.{Covered, HasPointOver}
 use Rattle.mill_job.specs.declared.fields.JobFields.{JobFields}
@@ -19,13 +19,13 @@ use Rattle.mill_dexel.specs.Tops.{Stock, uncut}
 use Rattle.mill_dexel.specs.Turns.{move_at}
 use Rattle.mill_verify.specs.Tests.{stock_met}
 
--- r over n is where the machine's own tip may be at a moment of the move: no farther than the slack from where the program has the tip then
+-- r over n is where the machine's own tip may be on the move: no farther than the slack from where the program may have the tip
 pub record IsRealTip (slack : ℤ) (m : Move) (n : ℤ) (r : Pt3) : Type 0 where
   pub some : (pos 0) <ℤ n
-  pub k : ℤ
   pub d : ℤ
-  pub moment : IsMoment k d
-  pub near : IsWithin slack d (tip_at m k d) n r
+  pub tip : Pt3
+  pub is : IsTipOf m d tip
+  pub near : IsWithin slack d tip n r
 
 -- what lies deeper than this in the job's cutter
 abbrev pub core : JobFields → ℤ → Solid
@@ -41,7 +41,7 @@ pub record IsColumnPoint (job : JobFields) (j i : ℕ) (h : ℤ) : Type 0 where
 abbrev pub column_point : JobFields → ℕ → ℕ → ℤ → Pt3
 column_point job j i h = point_at (column_x job i) (column_y job j) h
 
--- the moves may leave the column point (j, i, h): at no moment of any is it inside what the cutter removes for sure
+-- the moves may leave the column point (j, i, h): at no moment of any, at which it is sure where the tip is, is it inside what the cutter removes for sure
 abbrev pub LeavesPoint : JobFields → List Move → ℕ → ℕ → ℤ → Type 0
 LeavesPoint job moves j i h = ¬ IsRemovedBy (inner_of job) moves (column_point job j i h)
 
@@ -56,9 +56,9 @@ Points = ℕ → ℕ → ℤ → Type 0
 abbrev pub PointsMet : Type 1
 PointsMet = ℕ → ℕ → ℕ → ℤ → Type 0
 
--- at no real tip of a Rapid is a column point that may be left as the move meets it deeper than the graze in the cutter
+-- at no real tip of a move that isn't a Feed is a column point that may be left as the move meets it deeper than the graze in the cutter
 abbrev pub RapidsMiss : JobFields → List Move → PointsMet → Type 0
-RapidsMiss job moves Met = (k j i : ℕ) (h n : ℤ) (r : Pt3) → k < length moves → (move_at moves k).kind ≡ Rapid
+RapidsMiss job moves Met = (k j i : ℕ) (h n : ℤ) (r : Pt3) → k < length moves → (move_at moves k).kind ≢ Feed
     → IsColumnPoint job j i h → Met k j i h → IsRealTip job.slack (move_at moves k) n r
     → ¬ SolidHolds (core job (graze_of job)) n r (pos 1) (column_point job j i h)
 

@@ -14,7 +14,7 @@ use Rattle.mill_verify.specs.declared.fixture.FixtureHit.{FixtureHit}
 abbrev pub fixture_at : List Fixture → ℕ → Fixture
 fixture_at fixtures b = slice_index_or fixtures b blank
 
--- the solid passes the fixture on the move: both triangles of its upper face, by halving
+-- the solid passes the fixture on the move: both triangles of its upper face
 pub record PassesFixture (solid : Solid) (m : Move) (fixture : Fixture) : Type 0 where
   pub first : SolidPasses solid m (first_half fixture)
   pub second : SolidPasses solid m (second_half fixture)

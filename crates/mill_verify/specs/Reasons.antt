@@ -21,6 +21,7 @@ clash_reason t (clash.HolderFixture hit) = HolderFixture t hit.fixture hit.leaf
 abbrev pub cut_reason : Kind → ℕ → ℕ → ℕ → Leaf → Reason
 cut_reason motion.Rapid t j i leaf = Rapid t j i leaf
 cut_reason motion.Feed t j i leaf = Cut t j i leaf
+cut_reason motion.Dogleg t j i leaf = Rapid t j i leaf
 
 -- why it stops the cutter or the holder
 abbrev pub stock_reason : RowTest → Kind → ℕ → ℕ → ℕ → Leaf → Reason

@@ -1,7 +1,7 @@
 -- That a tool which may be anywhere before a program comes to the place where its moves begin.
 use Rattle.std.specs.Prelude.{◌⊎◌, ℤ, pos, ◌*ℤ◌, ◌<ℤ◌, ◌≤ℤ◌, List, MatchOption}
 use Rattle.mill_base.specs.Covers.{IsUnder}
-use Rattle.mill_base.specs.Motion.{IsMoment, tip_at}
+use Rattle.mill_base.specs.Motion.{IsInBox, IsMoment, IsOnWay, tip_at}
 use Rattle.mill_base.specs.Points.{point_at, times}
 use Rattle.mill_base.specs.Tools.{ToolGouges}
 use Rattle.mill_base.specs.declared.motion.Kind.TheVariants.{Rapid}
@@ -12,6 +12,8 @@ use Rattle.mill_base.specs.declared.tool.Tool.{Tool}
 use Rattle.mill_job.specs.Jobs.{IsJob, tool_of}
 use Rattle.mill_job.specs.declared.fields.JobFields.{JobFields}
 use Rattle.mill_job.specs.declared.fixtures.Fixture.{Fixture}
+use Rattle.mill_job.specs.declared.habits.Rapids.{Rapids}
+use Rattle.mill_job.specs.declared.habits.Rapids.TheVariants.{Straight, Axes}
 use Rattle.mill_verify.specs.Claims.{HitsFixture}
 
 -- with its tip at t over n, some point of a fixture is strictly inside the tool's cutter, or inside its holder
@@ -38,10 +40,15 @@ upright at n p = record { kind = Rapid; from = p; to = level_with at n p }
 abbrev pub across : Pt3 → ℤ → Pt3 → Move
 across at n p = record { kind = Rapid; from = level_with at n p; to = times n at }
 
--- at each moment k/d of both the tool is free
+-- where the tip may be on a rapid, over the denominator d: on its way, and where each axis runs at a speed of its own, anywhere in the box of its two ends
+abbrev pub MayBeAt : Rapids → Move → ℤ → Pt3 → Type 0
+MayBeAt Straight m d t = IsOnWay m d t
+MayBeAt Axes m d t = IsInBox m d t
+
+-- at each moment k/d of the way up or down the tool is free, and across wherever the job's machine may have the tip
 pub record ComesSafely (job : JobFields) (part : List Tri) (at : Pt3) (n : ℤ) (p : Pt3) : Type 0 where
   pub upright_free : (k d : ℤ) → IsMoment k d → IsFree job part (d *ℤ n) (tip_at (upright at n p) k d)
-  pub across_free : (k d : ℤ) → IsMoment k d → IsFree job part (d *ℤ n) (tip_at (across at n p) k d)
+  pub across_free : (d : ℤ) (t : Pt3) → MayBeAt job.rapids (across at n p) d t → IsFree job part (d *ℤ n) t
 
 -- from each tip at which the tool is free, and from which the way may begin, it comes safely to the place `at`
 abbrev pub StartsSafely : JobFields → List Tri → Pt3 → Type 0

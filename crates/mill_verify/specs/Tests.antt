@@ -18,7 +18,7 @@ pub record IsOverFloor (job : JobFields) (moves : List Move) (k : ℕ) : Type 0 
   pub start : job.floor ≤ℤ (move_at moves k).from.z
   pub «end» : job.floor ≤ℤ (move_at moves k).to.z
 
--- test (ii) of one triangle: move k passes it, by halving
+-- test (ii) of one triangle: move k passes it
 abbrev pub PassesTri : JobFields → List Tri → List Move → ℕ → ℕ → Type 0
 PassesTri job part moves k t = SolidPasses (part_solid_of job) (move_at moves k) (tri_at part t)
 
@@ -42,12 +42,12 @@ HolderClearsFixtures job moves k = IfSome (holder_solid_of job) (λ holder. Pass
 abbrev pub stock_met : JobFields → Stock → List Move → ℕ → Stock
 stock_met job start moves k = stock_after job start (take k moves)
 
--- test (iii) of one column, from this stock on: move k passes, by halving, the point of the column at which it is tested after the moves before it: a Rapid the
--- one at the top, and a Feed the one as low as it may cut
+-- test (iii) of one column, from this stock on: move k passes the point of the column at which it is tested after the moves before it: a Rapid,
+-- straight or not, the one at the top, and a Feed the one as low as it may cut
 abbrev pub PassesColumnOn : JobFields → Stock → List Move → ℕ → ℕ → ℕ → Type 0
 PassesColumnOn job start moves k j i = SolidPassesPoint (stock_solid_of job) (move_at moves k) (tested_point_on job (move_at moves k).kind (stock_met job start moves k) j i)
 
--- test (iii): where move k is a Rapid, or a Feed and the job limits the depth of cut, it passes each column
+-- test (iii): where move k is no Feed, or a Feed and the job limits the depth of cut, it passes each column
 abbrev pub ClearsStockOn : JobFields → Stock → List Move → ℕ → Type 0
 ClearsStockOn job start moves k = ClearsColumnsOn job (stock_met job start moves k) (move_at moves k)
 

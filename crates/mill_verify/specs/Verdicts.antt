@@ -4,6 +4,7 @@ use Rattle.mill_base.specs.declared.points.Tri.{Tri}
 use Rattle.mill_base.specs.declared.motion.Move.{Move}
 use Rattle.mill_base.specs.declared.motion.Kind.{Kind}
 use Rattle.mill_base.specs.declared.motion.Kind.TheVariants.{Rapid, Feed}
+use Rattle.mill_base.specs.Motion.{IsStraight}
 use Rattle.mill_base.specs.Solids.{Solid}
 use Rattle.mill_base.specs.declared.limits.TheConstants.{MAX_LAST_REACH}
 use Rattle.mill_sweep.specs.Leaves.{reach_of}
@@ -14,7 +15,7 @@ use Rattle.mill_base.specs.Covers.{IsHighestCovered}
 use Rattle.mill_job.specs.Solids.{holder_solid_of, outer_of, part_solid_of, stock_solid_of}
 use Rattle.mill_job.specs.declared.fields.JobFields.{JobFields}
 use Rattle.mill_job.specs.Columns.{IsColumn, IsBefore, column_x, column_y, row_count, column_count}
-use Rattle.mill_dexel.specs.Tops.{IsTested, Stock, stock_after, tested_point_on, top_point_on, uncut}
+use Rattle.mill_dexel.specs.Tops.{IsTested, Stock, stock_after, tested_as, tested_point_on, top_point_on, uncut}
 use Rattle.mill_obstacles.specs.Faces.{first_half, second_half}
 use Rattle.mill_verify.specs.Fixtures.{FailsFixture, PassesFixture, fixture_at}
 use Rattle.mill_verify.specs.Tests.{ClearsFixtures, ClearsPart, ClearsStockOn, GoodBeforeOn, HolderClearsFixtures, HolderClearsPart, IsCutOn, IsOverFloor, PassesColumnOn, PassesTri, stock_met}
@@ -76,7 +77,7 @@ pub record FailsHolderFixtureOn (job : JobFields) (part : List Tri) (start : Sto
   pub first : (e : ℕ) → e < b → PassesFixture holder (move_at moves k) (fixture_at job.keep_out e)
   pub fails : FailsFixture holder (move_at moves k) (fixture_at job.keep_out b) leaf
 
--- move k, all before it being good, passes tests (i) to (ii hf), is of this kind and tested, and fails test (iii) first at column (j, i), at this leaf
+-- move k, all before it being good, passes tests (i) to (ii hf), is tested as one of this kind, and fails test (iii) first at column (j, i), at this leaf
 pub record FailsStockOn (job : JobFields) (part : List Tri) (start : Stock) (moves : List Move) (kind : Kind) (k j i : ℕ) (leaf : Leaf) : Type 0 where
   pub there : k < length moves
   pub before : GoodBeforeOn job part start moves k
@@ -85,7 +86,7 @@ pub record FailsStockOn (job : JobFields) (part : List Tri) (start : Stock) (mov
   pub holder : HolderClearsPart job part moves k
   pub fixtures : ClearsFixtures job moves k
   pub holder_fixtures : HolderClearsFixtures job moves k
-  pub is : (move_at moves k).kind ≡ kind
+  pub is : tested_as (move_at moves k).kind ≡ kind
   pub tested : IsTested job kind
   pub column : IsColumn job j i
   pub first : (a b : ℕ) → IsColumn job a b → IsBefore a b j i → PassesColumnOn job start moves k a b
@@ -173,10 +174,11 @@ abbrev pub IsVerdictOn : JobFields → List Tri → Stock → List Move → Verd
 IsVerdictOn job part start moves (Accept count columns left) = AcceptsOn job part start moves count columns left
 IsVerdictOn job part start moves (Reject reason) = IsRejectionOn job part start moves reason
 
--- a leaf of a move is one of the last, with a reach of at most 2, and a triangle blocks a solid on it: the triangle comes over the lower end of the leaf that
--- the solid's own tip makes, and some point of it is strictly inside that leaf's outer cutter
+-- a leaf of a straight move is one of the last, with a reach of at most 2, and a triangle blocks a solid on it: the triangle comes over the lower end of the leaf
+-- that the solid's own tip makes, and some point of it is strictly inside that leaf's outer cutter; on a dogleg, it comes over the lower end of the tip's move and
+-- lies nearer than the radius to the box of that
 pub record BlocksLeaf (solid : Solid) (move : Move) (leaf : Leaf) (tri : Tri) : Type 0 where
-  pub last : reach_of move leaf.d leaf.k ≤ MAX_LAST_REACH
+  pub last : IsStraight move → reach_of move leaf.d leaf.k ≤ MAX_LAST_REACH
   pub blocks : SolidIsBlocked solid move tri leaf
 
 -- triangle t blocks this leaf of move k

@@ -117,6 +117,7 @@ pub fn stock_reason(test: RowTest, kind: Kind, at: u64, row: u32, col: u32, leaf
         RowTest::Cut => match kind {
             Kind::Rapid => Reason::Rapid { at, row, col, leaf },
             Kind::Feed => Reason::Cut { at, row, col, leaf },
+            Kind::Dogleg => Reason::Rapid { at, row, col, leaf },
         },
     }
 }

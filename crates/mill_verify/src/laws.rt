@@ -43,10 +43,11 @@ pub fn between_is_safe()
 {}
 
 /// Wherever its tip is before a program, the job's tool, the slack around it, comes safely to a place
-/// at or over the clear height: straight up or down to that height, and straight across.
+/// at or over the clear height: straight up or down to that height, and across, straight or, where
+/// the job's machine runs each axis of a rapid for itself, anywhere in the box of the two ends.
 ///
 /// It is to be free where it stands, of the part and of each fixture, and its tip at or over the clear
-/// height, or no higher than that place. Then it is free at each moment of both. That a machine so
+/// height, or no higher than that place. Then it is free wherever the tip may be. That a machine so
 /// begins is what its program's first two lines say. It has no code, as [`one_verdict`].
 pub fn start_is_safe()
     ensures { StartIsSafe }

@@ -377,3 +377,34 @@ fn keeps_out_of_fixtures(rt: HostRuntime) -> Result<(), Fail> {
     each_verdict(&rt, FIXTURES, 1)?;
     each_verdict(&rt, FIXTURES, 4)
 }
+
+// Past a box on a slant: straight, and as a dogleg, whose tip may come as near to the box as its
+// own box is. So it is with a holder. Then out over the stock's edge and down beside it, and over a
+// plate to a place beside it that is one lower: straight, the tip is high enough as long as it is
+// over them.
+const DOGLEGS: &str = "\
+fenced keep_out = [[290, -300, 300, -99, 400]] | speck | feed 0 0 300; rapid 300 300 300; feed 300 \
+    300 400 => Accept { moves: 3, columns: 4, most_left: 300 }
+fenced keep_out = [[290, -300, 300, -99, 400]] | speck | feed 0 0 300; dogleg 300 300 300; feed \
+    300 300 400 => Reject(Fixture { at: 1, fixture: 0, leaf: Leaf { d: 0, k: 0 } })
+fenced keep_out = [[290, -300, 300, -100, 400]] | speck | feed 0 0 300; dogleg 300 300 300; feed \
+    300 300 400 => Accept { moves: 3, columns: 4, most_left: 300 }
+fenced holder_radius = 200; stickout = 50; keep_out = [[290, -300, 300, -199, 400]] | speck | feed \
+    0 0 300; dogleg 300 300 300 => Reject(HolderFixture { at: 1, fixture: 0, leaf: Leaf { d: 0, k: \
+    0 } })
+fenced holder_radius = 200; stickout = 50; keep_out = [[290, -300, 300, -200, 400]] | speck | feed \
+    0 0 300; dogleg 300 300 300 => Accept { moves: 2, columns: 4, most_left: 300 }
+fenced | speck | rapid 1000 1000 200 => Accept { moves: 1, columns: 4, most_left: 300 }
+fenced | speck | dogleg 1000 1000 200 => Reject(Rapid { at: 0, row: 0, col: 0, leaf: Leaf { d: 0, \
+    k: 0 } })
+fenced | speck | dogleg 1000 1000 300 => Accept { moves: 1, columns: 4, most_left: 300 }
+fenced | high | rapid 1000 0 249 => Accept { moves: 1, columns: 4, most_left: 300 }
+fenced | high | dogleg 1000 0 249 => Reject(Gouge { at: 0, tri: 0, leaf: Leaf { d: 0, k: 0 } })
+fenced | high | dogleg 1000 0 250 => Reject(Rapid { at: 0, row: 0, col: 0, leaf: Leaf { d: 0, k: 0 \
+    } })";
+
+#[test]
+fn judges_doglegs_by_their_box(rt: HostRuntime) -> Result<(), Fail> {
+    each_verdict(&rt, DOGLEGS, 1)?;
+    each_verdict(&rt, DOGLEGS, 4)
+}

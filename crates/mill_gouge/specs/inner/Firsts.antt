@@ -3,8 +3,7 @@ use Rattle.std.specs.Prelude.{◌≡◌, ◌⊎◌, ℕ, ◌<◌, Option, Some, 
 use Rattle.mill_base.specs.declared.points.Tri.{Tri}
 use Rattle.mill_base.specs.declared.motion.Move.{Move}
 use Rattle.mill_base.specs.declared.cutter.Cutter.{Cutter}
-use Rattle.mill_sweep.specs.Leaves.{span_of}
-use Rattle.mill_sweep.specs.Halving.{Passes, FailsAt, Blocks}
+use Rattle.mill_sweep.specs.Passing.{FailsAt, IsBlocked, Passes}
 use Rattle.mill_sweep.specs.declared.leaf.Leaf.{Leaf}
 use Rattle.mill_gouge.specs.declared.gouge.Gouge.{Gouge}
 
@@ -18,7 +17,7 @@ pub record IsGouge (cutter : Cutter) (m : Move) (tri : Tri) (t : ℕ) (told : Op
   pub leaf : Leaf
   pub told_so : told ≡ Some (record { tri = t; leaf = leaf })
   pub fails : FailsAt cutter m tri leaf
-  pub blocked : Blocks cutter (span_of m leaf.d leaf.k) tri
+  pub blocked : IsBlocked cutter m tri leaf
 
 -- with the triangle of number t, the first gouge so far becomes another: itself, where t doesn't come before it or the move passes the triangle; else the triangle's
 abbrev pub IsEarlier : Cutter → Move → Tri → ℕ → Option Gouge → Option Gouge → Type 0

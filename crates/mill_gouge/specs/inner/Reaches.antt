@@ -8,7 +8,7 @@ use Rattle.mill_base.specs.declared.motion.Move.{Move}
 use Rattle.mill_base.specs.declared.points.Box2.{Box2}
 use Rattle.mill_base.specs.declared.points.Tri.{Tri}
 use Rattle.mill_cells.specs.Boxes.{Meet, box_of}
-use Rattle.mill_sweep.specs.Halving.{Passes}
+use Rattle.mill_sweep.specs.Passing.{Passes}
 use Rattle.mill_gouge.specs.declared.reach.Reach.{Reach}
 
 -- the move passes each triangle in range whose box doesn't meet the area, or whose highest point isn't over the height

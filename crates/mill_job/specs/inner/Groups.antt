@@ -7,7 +7,7 @@ use Rattle.mill_base.specs.declared.unit.Unit.{Unit}
 use Rattle.mill_job.specs.Cutters.{shape_of}
 use Rattle.mill_job.specs.Documents.{snap_of}
 use Rattle.mill_job.specs.Fixtures.{fixtures_at, fixtures_fault}
-use Rattle.mill_job.specs.Habits.{flag_at, flag_fault, start_of, start_texts}
+use Rattle.mill_job.specs.Habits.{flag_at, flag_fault, rapids_of, rapids_texts, start_of, start_texts}
 use Rattle.mill_job.specs.Holders.{holder_fault, holder_of}
 use Rattle.mill_job.specs.Tables.{are_levels, area_of, array_fault, array_fault_if_there, coordinate_fault, is_area, is_place, levels_of, number_at, number_fault, number_fault_if_there, number_given, number_or, numbers_at, place_of, text_fault_if_there}
 use Rattle.mill_job.specs.declared.cutter.Outline.{Outline}
@@ -97,6 +97,7 @@ extras_faults unit ms =
     ∷ number_fault_if_there key.Overcut (pos 0) MAX_OVERCUT ms
     ∷ number_fault_if_there key.Graze (pos 0) MAX_GRAZE ms
     ∷ fixtures_fault unit ms
+    ∷ text_fault_if_there key.Rapids rapids_texts ms
     ∷ text_fault_if_there key.Start start_texts ms
     ∷ flag_fault key.Spindle ms
     ∷ []
@@ -111,6 +112,7 @@ extras_of ms = record {
   overcut = number_or key.Overcut (pos 0) ms;
   graze = number_given key.Graze ms;
   keep_out = fixtures_at ms;
+  rapids = rapids_of ms;
   start = start_of ms;
   spindle = flag_at key.Spindle ms;
 }
@@ -143,6 +145,7 @@ job_of_groups unit cutter space measure paths extras = record {
   overcut = extras.overcut;
   graze = extras.graze;
   keep_out = extras.keep_out;
+  rapids = extras.rapids;
   start = extras.start;
   spindle = extras.spindle;
 }

@@ -108,7 +108,8 @@ fn blames_each_failed_read(rt: HostRuntime) -> Result<(), Fail> {
     each_ends(&rt, rt.alloc(), READS)
 }
 
-// A program of three pieces, whose first line is refused, is read to its end behind its fault, by reads 4 to 7.
+// A program of three pieces, whose first line is refused, is read to its end behind its fault, by
+// reads 4 to 7.
 const READ_ON: &str = r"verify job plate <?\n + 139998 *  >, out 1000 4, 200 => 6 read fault program
 verify job plate <?\n + 139998 *  >, out 1000 5, 200 => 6 read fault program
 verify job plate <?\n + 139998 *  >, out 1000 6, 200 => 6 read fault program

@@ -1,18 +1,13 @@
-use Rattle.std.proofs.Common.{pos, refl, arith}
-use Rattle.std.proofs.lemmas.Int.{ints}
-use Rattle.mill_dexel.proofs.Splits.{split_found, split_passed, split_last}
+use Rattle.std.proofs.Common.{◌∙◌, ap, pos, sym}
+use Rattle.mill_base.specs.declared.motion.Kind.{Kind}
+use Rattle.mill_dexel.specs.Samples.{split_by}
 use Rattle.mill_dexel.proofs.sample.halvings.Goals as goal
 
-pub returns-then-is_reached-clause-value : goal.returns-then-is_reached-clause-value
-returns-then-is_reached-clause-value c =
-    split_found (pos c.args.sample) c.args.step.now c.args.sample c.length-length.result c.loop-d.d c.is_reached.result refl c.length-length.ensures.value c.is_reached.ensures c.if-is_reached.true
-    (omega arith) c.loop-d.invariant
+pub returns-in-Rapid-clause-value : goal.returns-in-Rapid-clause-value
+returns-in-Rapid-clause-value c = c.straight_halvings.ensures.value ∙ ap (λ (k : Kind). split_by k (pos c.args.sample) c.args.step.now) (sym c.in-Rapid.is)
 
-pub loop-d-preserved : goal.loop-d-preserved
-loop-d-preserved c =
-    split_passed (pos c.args.sample) c.args.step.now c.args.sample c.length-length.result c.loop-d.d c.is_reached.result refl c.length-length.ensures.value c.is_reached.ensures c.if-is_reached.false
-    (omega arith) c.loop-d.invariant
+pub returns-in-Feed-clause-value : goal.returns-in-Feed-clause-value
+returns-in-Feed-clause-value c = c.straight_halvings-in-Feed.ensures.value ∙ ap (λ (k : Kind). split_by k (pos c.args.sample) c.args.step.now) (sym c.in-Feed.is)
 
-pub returns-clause-value : goal.returns-clause-value
-returns-clause-value c =
-    split_last (pos c.args.sample) c.args.step.now c.length-length.result c.loop-d.d (omega (arith, ints)) c.length-length.ensures.value c.length-length.ensures.bound (omega arith) c.loop-d.invariant
+pub returns-in-Dogleg-clause-value : goal.returns-in-Dogleg-clause-value
+returns-in-Dogleg-clause-value c = ap (λ (k : Kind). split_by k (pos c.args.sample) c.args.step.now) (sym c.in-Dogleg.is)

@@ -2,7 +2,7 @@ use Rattle.std.specs.Prelude.{None, ◌<◌, List, length}
 use Rattle.std.proofs.Common.{◌∙◌, refl, inl, inr, subst, sym, w32, to_z, of_z}
 use Rattle.std.proofs.lemmas.Int.{to_z-of_z}
 use Rattle.mill_base.specs.declared.points.Tri.{Tri}
-use Rattle.mill_sweep.specs.Halving.{Passes}
+use Rattle.mill_sweep.specs.Passing.{Passes}
 use Rattle.mill_gouge.proofs.ReadLemmas.{at_tri}
 use Rattle.mill_gouge.proofs.Looking.{look_starts, reach_each, next_within, tri_in_range, look_goes_on, look_ends}
 use Rattle.mill_gouge.proofs.clear.passes_each.Goals as goal

@@ -14,13 +14,13 @@ finish-requires g c =
 
 pub returns-in-Ok-finish-clause-told : goal.returns-in-Ok-finish-clause-told
 returns-in-Ok-finish-clause-told g c = λ contents held.
-    file_moves c.args.job.now.fields c.home.result c.args.job.now.fields.unit c.rules_for.result (contents c.args.name.now) c.in-Ok.reader c.take_file.new.moves.items c.finish.new.out.items c.in-Ok-finish.field-0
-    c.home.ensures.value refl c.rules_for.ensures (c.in-Ok.ensures.takes contents held) (c.in-Ok-finish.ensures.answer (λ e. absurd cc)) (c.in-Ok-finish.ensures.moves_are (λ e. absurd cc))
+    file_moves c.args.job.now.fields c.home.result c.args.job.now.fields.unit c.rules_for.result (contents c.args.name.now) c.in-Ok.reader c.take_file.new.moves.items c.finish.new.out.items c.run_moves.new.moves.items c.in-Ok-finish.field-0
+    c.home.ensures.value refl c.rules_for.ensures (c.in-Ok.ensures.takes contents held) (c.in-Ok-finish.ensures.answer (λ e. absurd cc)) (c.in-Ok-finish.ensures.moves_are (λ e. absurd cc)) c.run_moves.ensures
 
 pub returns-in-Ok-finish-clause-ready : goal.returns-in-Ok-finish-clause-ready
 returns-in-Ok-finish-clause-ready g c =
     let file = c.in-Ok.ensures.takes (g.S.Shelf.shows c.args.shelf.now).contents c.in-Ok.ensures.store.held in
-    moves_ok c.args.job.now.fields c.home.result c.args.job.now.fields.unit c.rules_for.result c.finish.new.out.items c.home.ensures.value refl c.rules_for.ensures (c.finish.ensures.moves c.home.result c.args.job.now.fields.unit c.rules_for.result file.taken.moves_ok)
+    moves_ok c.args.job.now.fields c.home.result c.args.job.now.fields.unit c.rules_for.result c.finish.new.out.items c.run_moves.new.moves.items c.home.ensures.value refl c.rules_for.ensures (c.finish.ensures.moves c.home.result c.args.job.now.fields.unit c.rules_for.result file.taken.moves_ok) c.run_moves.ensures
 
 pub returns : goal.returns
 returns g c =

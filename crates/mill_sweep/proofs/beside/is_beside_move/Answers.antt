@@ -1,6 +1,6 @@
 use Rattle.std.proofs.Common.{◌≡◌, ◌↔◌, true, subst}
 use lib.IntN.{ℤ}
-use Rattle.mill_sweep.specs.Halving.{LiesBeside}
+use Rattle.mill_sweep.specs.Apart.{LiesBeside}
 use Rattle.mill_sweep.proofs.Placing.{from_move}
 use Rattle.mill_sweep.proofs.beside.is_beside_move.Goals as goal
 

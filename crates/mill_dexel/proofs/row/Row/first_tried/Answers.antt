@@ -2,8 +2,7 @@ use Rattle.std.proofs.Common.{subst, sym, below_more, arith}
 use Rattle.mill_base.specs.Points.{point_tri}
 use Rattle.mill_base.specs.Ranges.{IsInRange}
 use Rattle.mill_base.specs.declared.points.Pt3.{Pt3}
-use Rattle.mill_sweep.specs.Leaves.{span_of}
-use Rattle.mill_sweep.specs.Halving.{Blocks, PassesPoint, FailsAt}
+use Rattle.mill_sweep.specs.Passing.{FailsAt, IsBlocked, PassesPoint}
 use Rattle.mill_sweep.specs.Solids.{SolidFailsAt, SolidIsBlocked, SolidPassesPoint}
 use Rattle.mill_sweep.specs.Sweeps.{Swept}
 use Rattle.mill_dexel.specs.inner.Passing.{trying}
@@ -30,7 +29,7 @@ returns-in-Some-clause-first c = record {
 pub returns-in-Some-clause-blocked : goal.returns-in-Some-clause-blocked
 returns-in-Some-clause-blocked c =
     subst (λ (p : Pt3). SolidIsBlocked c.args.solid c.args.step.now (point_tri p) c.in-Some.leaf) c.tested_point-point.ensures
-    (subst (λ (s : Swept). Blocks s.cutter (span_of s.move c.in-Some.leaf.d c.in-Some.leaf.k) (point_tri c.tested_point-point.result)) c.new-sweep.ensures c.in-Some.ensures.1)
+    (subst (λ (s : Swept). IsBlocked s.cutter s.move (point_tri c.tested_point-point.result) c.in-Some.leaf) c.new-sweep.ensures c.in-Some.ensures.1)
 
 pub loop-column-preserved : goal.loop-column-preserved
 loop-column-preserved c =

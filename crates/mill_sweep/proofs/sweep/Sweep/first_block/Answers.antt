@@ -1,12 +1,11 @@
 use Rattle.std.proofs.Common.{subst}
 use Rattle.std.specs.Prelude.{MatchOption}
-use Rattle.mill_sweep.specs.Halving.{Blocks, FailsAt, Passes}
-use Rattle.mill_sweep.specs.Leaves.{span_of}
+use Rattle.mill_sweep.specs.Passing.{FailsAt, IsBlocked, Passes}
 use Rattle.mill_sweep.specs.Sweeps.{Swept}
 use Rattle.mill_sweep.proofs.sweep.Sweep.first_block.Goals as goal
 
 pub returns : goal.returns
 returns c =
     subst
-    (λ (s : Swept). MatchOption c.first_on.result (Passes s.cutter s.move c.args.tri.now) (λ leaf. FailsAt s.cutter s.move c.args.tri.now leaf × Blocks s.cutter (span_of s.move leaf.d leaf.k) c.args.tri.now))
+    (λ (s : Swept). MatchOption c.first_on.result (Passes s.cutter s.move c.args.tri.now) (λ leaf. FailsAt s.cutter s.move c.args.tri.now leaf × IsBlocked s.cutter s.move c.args.tri.now leaf))
     c.self.view_is c.first_on.ensures

@@ -1,7 +1,0 @@
-use Rattle.std.proofs.Common.{◌≡◌, ◌-◌, pos}
-use Rattle.mill_base.specs.Numbers.{least_from}
-use Rattle.mill_dexel.specs.Samples.{is_split, split_of}
-use Rattle.mill_dexel.proofs.sample.halvings.Given as goal
-
-abbrev pub invariant-loop-d : goal.invariant-loop-d
-invariant-loop-d l = least_from (is_split (pos l.sample) l.step) (64 - l.d) l.d ≡ split_of (pos l.sample) l.step
