@@ -8,7 +8,7 @@ import os
 import re
 import tempfile
 
-from camtool import programs, texts
+from camtool import machine_words, programs, texts
 
 # By how many units an overcut is raised for a touch, by the unit's decimals; in thousandths facets and chords are more.
 TOUCH = {2: (1, 2, 3, 4, 5), 3: (1, 2, 3, 4, 5, 10, 15)}
@@ -142,7 +142,7 @@ def tell_inches(judging):
     if judging.is_list:
         return []
     job, grid = texts.job_of(judging.texts[0]), judging.grid
-    ends = [it.end for it in texts.moves_of(judging.texts[1], texts.start_of(job), grid)]
+    ends = [it.end for it in machine_words.moves_of(judging.texts[1], job)]
     high = max((it[2] for it in ends), default=job["clear"])
     around = 2 * job["radius"]
     is_over = all(job["area"][axis] - around <= 25.4 * it[axis] <= job["area"][axis + 2] + around for it in ends for axis in (0, 1))

@@ -6,7 +6,8 @@ be expected, as cut at full depth. With PART it tells the part's box too, and wh
 
 With a program, or a list of them (a .toml), it tells each one's box, tool, spindle and feeds, and notes what doesn't go
 with the job: a spindle that stands still, a feed before any F, another tool than the post's comments say, feeds that
-miss the part. Where the program isn't accepted, it has camtool judge moved, turned, mirrored and scaled copies of the
+miss the part. By a job with `words = "machine"` it tells behind `premise:` what the program takes for granted of its
+control: zero and tool length, ways up to the machine's place, tool changes, how a cycle comes back down. Where the program isn't accepted, it has camtool judge moved, turned, mirrored and scaled copies of the
 part, and tells which change brings part and program together: so a wrong unit, zero or side is told as such. Of a part
 of over 20,000 triangles it makes no copies, and says so.
 
@@ -20,7 +21,7 @@ import itertools
 import math
 import re
 
-from camtool import command, cutters, fit, parts, programs, texts
+from camtool import command, cutters, fit, machine_words, parts, programs, texts
 from camtool.command import read, stop
 from camtool.facts import Facts
 from camtool.fit import suspects
@@ -56,6 +57,9 @@ class Job:
         self.keep_out = keys.get("keep_out", [])
         self.rapids = keys.get("rapids", "straight")
         self.start, self.spindle = keys.get("start", "home"), keys.get("spindle", False)
+        self.is_machine = machine_words.is_machine(keys)
+        self.peck_clearance = keys.get("peck_clearance", 25 if self.grid.places == 2 else 250)
+        self.lengths = keys.get("lengths", "table")
         self.sides = self.area[2] - self.area[0], self.area[3] - self.area[1]
 
     def mm(self, units):
@@ -84,6 +88,13 @@ def start_of(job):
     return f"from {place}, up or down to Z{job.grid.millimetres(job.clear)} or over it, and then across"
 
 
+def words_told(job):
+    """Returns how it is told that programs have machine words, and what of the slack is left to the machine."""
+    length = "one tool length, whatever a program says" if job.lengths == "one" else "tool lengths by a table"
+    share = f"{job.mm(3)} of the slack are the text's, {job.mm(job.slack - 3)} the machine's" if job.slack >= 3 else "no number is rounded, all of the slack is the machine's"
+    return f"those that posts write; {length}; {share}"
+
+
 def rows_of(job):
     """What the job says, in rows of a name and a text."""
     low, high = (job.grid.point((*job.area[at : at + 2], z)) for at, z in ((0, job.floor), (2, job.top)))
@@ -104,6 +115,8 @@ def rows_of(job):
         yield "rapids", "each axis at its own speed: along two axes or more any way in the box of the ends"
     if job.spindle:
         yield "program", "has to start the spindle, and to say how fast it feeds, before it feeds"
+    if job.is_machine:
+        yield "words", words_told(job)
     holder = f"{job.mm(2 * job.holder_radius)} across, {job.mm(job.stickout)} over the tip" if job.stickout else "none, so nothing over the cutter is looked at"
     yield "holder", holder
 
@@ -137,6 +150,8 @@ def notes_on_stock(job):
         yield f"overcut: what is thinner than {job.mm(job.overcut)} of the part may be cut away whole"
     if job.slack and not job.overcut:
         yield "overcut: with a slack and without it a program that is cut to size is rejected"
+    if job.is_machine and job.slack < 3:
+        yield "slack: under 3 units nothing is rounded, so a program with a finer number is refused"
     if job.allowance < job.slack:
         yield "allowance: it is under slack, by which the tip may be too high"
     yield from notes_on_boxes(job)
@@ -287,7 +302,7 @@ def notes_on_order(steps):
 def notes_on_place(job, facts):
     """What of a program's places doesn't go with the job."""
     units = lambda it: float(it) * 10**job.grid.places
-    if facts.decimals > job.grid.places:
+    if facts.decimals > job.grid.places and not (job.is_machine and job.slack >= 3):
         yield f"it has {facts.decimals} decimals, and the job is in {'hundredths' if job.grid.places == 2 else 'thousandths'}: a digit behind the last one that isn't 0 is refused"
     lowest = facts.cut_low[2]
     if lowest is not None and units(lowest) >= job.top:
@@ -300,6 +315,43 @@ def notes_on_place(job, facts):
         low, high = facts.cut_low[axis], facts.cut_high[axis]
         if low is not None and (units(low) < job.area[axis] - 3 * job.radius or units(high) > job.area[axis + 2] + 3 * job.radius):
             yield f"its feeds go from {'XY'[axis]}{low:f} to {'XY'[axis]}{high:f}, far out of area, where no stock is watched"
+
+
+def named_at(names):
+    """Returns words with the lines on which they count first, as `G54 (line 3)`; what is in force at the beginning is told so."""
+    told = lambda it: "what is in force before the program" if it == machine_words.FIRST else it
+    return " and ".join(f"{told(name)} (line {line})" for name, line in names.items())
+
+
+def premises_of(job, premises):
+    """What a program in machine words takes for granted of its control, in sentences."""
+    if premises.zeros:
+        yield f"X and Y are named under {named_at(premises.zeros)}: that zero is this part's, and a zero's word alone moves nothing"
+    if premises.lengths and job.lengths == "one":
+        yield "the machine has one tool length: this tool was touched off, and G43 and G49 move and change nothing"
+    elif premises.lengths:
+        yield f"Z is named under {named_at(premises.lengths)}: that length is this tool's, and the word alone moves nothing"
+    if premises.early and premises.changes:
+        yield f"Z of line {premises.early} stands before the tool's word in line {premises.changes[0]}: it is true of what is in the spindle then"
+    if premises.ups:
+        yield f"{named_at(premises.ups)} goes up, and to at least `clear` for this tool"
+    if premises.changes and job.start == "change":
+        yield f"M6 leaves the tip at or over `clear` (line {premises.changes[0]})"
+    if premises.pecks:
+        yield f"the control comes back down into a hole to {job.mm(job.peck_clearance)} over the depth before or higher (line {premises.pecks}): `peck_clearance`"
+
+
+def told_as_machine(step, name):
+    """Returns the sentences on what a program by a job with machine words takes for granted, and on comments with an M6."""
+    text = read(name)
+    reading = machine_words.read(text, step)
+    said = [f"premise: {it}" for it in premises_of(Job(step), reading.premises)]
+    hidden = len(re.findall(rb"[(;][^)\n]*\bM0?6\b", text))
+    if hidden:
+        said.append(f"note: it has {hidden} comments with M6 in them: a tool change that only a comment tells isn't seen, and all is judged with one tool")
+    if reading.fault:
+        said.append(f"note: read up to line {reading.fault.line} ({reading.fault.code}): what it takes for granted behind that isn't told")
+    return said
 
 
 def numbers_in(text):
@@ -320,10 +372,12 @@ def told_of_programs(keys, job_text, name):
         head = f"{step['program']}: " if len(steps) > 1 else "program: "
         rows += [("step", f"{step['program']}, {cutter_of(job)}")] if len(steps) > 1 else []
         rows += rows_of_program(facts)
-        notes += [head + it for it in (*notes_on_spindle(facts), *notes_on_tool(job, facts, number), *notes_on_place(job, facts))]
+        notes += [f"note: {head}{it}" for it in (*notes_on_spindle(facts), *notes_on_tool(job, facts, number), *notes_on_place(job, facts))]
+        if job.is_machine:
+            notes += [it.replace(": ", f": {head}", 1) for it in told_as_machine(step, step["program"])]
         found.append(facts)
         pairs.append((job, facts))
-    return rows, [*notes, *notes_on_order(pairs)], found
+    return rows, [*notes, *(f"note: {it}" for it in notes_on_order(pairs))], found
 
 
 def notes_on_fit(names, tris, job, found):
@@ -366,7 +420,7 @@ def main(words=None):
         except (KeyError, TypeError, ValueError, AttributeError):
             stop(f"{asked.program} isn't a list that camtool takes; camtool says why")
         rows += more
-        notes = [it for it in notes if not it.startswith("note on a plan")] + [f"note: {it}" for it in said]
+        notes = [it for it in notes if not it.startswith("note on a plan")] + said
         notes += [f"note: {it}" for it in notes_on_fit((asked.job, asked.part, asked.program), tris, job, found)]
     command.say([*(f"{name:<9} {it}" for name, it in rows), *notes])
     return 0

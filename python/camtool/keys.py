@@ -56,6 +56,8 @@ KEYS = (
     Key("rapids", "text", "find_rapids"),
     Key("start", "text", "find_start"),
     Key("spindle", "truth", "find_spindle"),
+    Key("words", "text", "find_words"),
+    Key("slack", "low", "find_slack"),
     Key("layer", "near", "find_layer"),
     Key("rough_stock", "near", "find_rough_stock"),
     Key("max_cut", "near", "find_max_cut"),
@@ -351,7 +353,9 @@ class Setup:
     @cached_property
     def overcut(self):
         """How deep a program may cut the part: what is asked for, or as much as sliding paths take, if a job takes that."""
-        wanted = OVERCUT[self.unit] if self.asked.overcut is None else self.asked.overcut
+        # (what the machine may be off comes into the part too)
+        strays = 3 * self.least if self.has_machine_words else 0
+        wanted = OVERCUT[self.unit] + strays if self.asked.overcut is None else self.asked.overcut
         most = min(map(self.radius_of, self.tools)) - self.least
         return rounded(min(wanted, most, DEEPEST[self.unit]), self.least, ROUND_FLOOR)
 
@@ -379,11 +383,27 @@ class Setup:
 
     def find_start(self):
         """From where a program starts, where that is said."""
-        return Value(self.asked.start, "from where a program starts") if self.asked.start else None
+        start = self.asked.start or ("anywhere" if self.has_machine_words else None)
+        return Value(start, "from where a program starts") if start else None
 
     def find_spindle(self):
         """Whether each feed needs a spindle that turns, where that is asked for."""
         return Value("true", "no feed before M3 or M4, an S over 0 and an F over 0") if self.asked.spindle else None
+
+    # ---- which words programs have
+
+    @property
+    def has_machine_words(self):
+        """Whether programs are read in machine words."""
+        return self.asked.words == "machine"
+
+    def find_words(self):
+        """Which words programs have, where that is said."""
+        return Value(self.asked.words, "which words programs have: the short table's, or those that posts write") if self.asked.words else None
+
+    def find_slack(self):
+        """How far the machine's tip may be off: with machine words as much as the rounding of the text takes."""
+        return Value(3 * self.least, "what the rounding of the program's numbers takes; more where the machine strays, or G64 has a P", True) if self.has_machine_words else None
 
     # ---- what a plan takes
 

@@ -9,7 +9,7 @@ import os
 import re
 import tempfile
 
-from camtool import causes, programs, texts
+from camtool import causes, machine_words, programs, texts
 from camtool.command import quoted
 from camtool.sentences import refusal_of, sentence_of
 from camtool.words import fault_of, name_of, scan, why_not
@@ -40,10 +40,12 @@ BEFORE = {
     "H": "G43 G43.1 G43.2",
     "D": "G41 G42",
 }
+# The keys of a job by which it reads a program.
+HABITS = ("start", "clear", "spindle", "words", "slack", "peck_clearance", "lengths")
 # A job that judges nothing: one column of stock, far below where the program starts, and no part.
 JOB = """unit = "{unit}"
 cutter = "flat"
-radius = 1
+radius = 1000
 floor = -{most}
 top = -{most}
 clear = {clear}
@@ -59,10 +61,10 @@ PART = b"solid\nendsolid\n"
 
 class Asking:
     """A folder in which camtool is asked about copies of a program, with a job and a part that judge nothing. `habits` are
-    those of a job's keys by which it reads a program: `start`, with `clear`, and `spindle`."""
+    those keys of a job by which it reads a program, of HABITS."""
 
     def __init__(self, folder, unit, habits):
-        self.folder, self.job, self.habits = folder, {"unit": unit}, habits
+        self.folder, self.job, self.habits = folder, {"clear": 0, **habits, "unit": unit}, habits
         self.store_job()
         self.store("part.stl", PART)
 
@@ -73,6 +75,8 @@ class Asking:
         keys = JOB.format(unit=self.job["unit"], most=most, clear=clear if start != "home" else most)
         keys += f'start = "{start}"\n' if start != "home" else ""
         keys += "spindle = true\n" if self.habits.get("spindle") else ""
+        if machine_words.is_machine(self.habits):
+            keys += texts.job_text({key: self.habits[key] for key in ("words", "slack", "peck_clearance", "lengths") if key in self.habits})
         self.store("job.toml", keys.encode("ascii"))
 
     def start_at_home(self):
@@ -164,11 +168,13 @@ class Copy:
 def refused_of(copy, refusal, text, job):
     """Returns the Refused of camtool's refusal of a copy. `text` has the lines of the program as they were."""
     line = text[refusal.line - 1] if refusal.line <= len(text) else b""
-    fault = fault_of(refusal.code, copy.line(refusal.line), texts.Grid(job))
+    fault, is_machine = fault_of(refusal.code, copy.line(refusal.line), texts.Grid(job)), machine_words.is_machine(job)
+    if is_machine and refusal.code != "word":
+        fault = machine_words.fault_of(copy.text(), refusal.line, refusal.code, job)
     told = fault and fault.told
     cause = causes.cause_of_word(copy.line(refusal.line), fault.start) if fault and refusal.code == "word" else None
     after = copy.before(refusal.line, refusal.code, told)
-    why = why_not(after or told) if refusal.code == "not-in-profile" else ""
+    why = why_not(after or told, is_machine) if refusal.code == "not-in-profile" else ""
     sentence = cause or sentence_of(refusal, job, told, why) or "docs/FORMATS.md says what this refusal means"
     found = Refused(refusal.line, quoted(line), refusal.code, told, sentence, after)
     if refusal.code != "start":
@@ -184,7 +190,7 @@ def refused_in(name, text, unit, folder, habits):
     text    its bytes
     unit    the job's unit, "hundredth" or "thousandth"
     folder  an empty folder for copies
-    habits  the keys `start`, `clear` and `spindle` of a job that has them
+    habits  those keys of a job that are in HABITS
     """
     asking, copy, lines, found = Asking(folder, unit, habits), Copy(text), text.split(b"\n"), []
     while len(found) < MOST:
@@ -201,6 +207,9 @@ def refused_in(name, text, unit, folder, habits):
             found.append(Refused(refusal.line, "", refusal.code, None, sentence_of(refusal, asking.job) or "", None))
             return found, False
         found.append(refused_of(copy, refusal, lines, asking.job))
+        if refusal.code == "start" and machine_words.is_machine(asking.habits):
+            # (where the place isn't known, no later line says anything)
+            return found, False
         if refusal.code == "start":
             asking.start_at_home()
     return found, False
@@ -208,8 +217,8 @@ def refused_in(name, text, unit, folder, habits):
 
 def all_refused(name, text, unit=None, habits=None):
     """Returns all that camtool refuses of a program of this name, whether it takes what is left of it, and the unit of the job that it
-    was asked with: that which is given, or hundredths where the program has no finer number. `habits` are the job's keys
-    `start`, `clear` and `spindle`, of which those that it has count.
+    was asked with: that which is given, or hundredths where the program has no finer number. `habits` are those keys of
+    the job that are in HABITS.
 
     Raises OSError where there is no camtool, and RuntimeError where it answers nothing.
     """

@@ -1,4 +1,4 @@
-"""camtool-new PART [PROGRAM..] [--tools=TABLE] [--tool=N ..] [--stock=X,Y,Z|MARGIN] [--allowance=MM] [--band=MM] [--overcut=MM] [--keep-out=X,Y,X,Y,Z ..] [--rapids=axes] [--start=anywhere] [--spindle] [--layer=MM] [-o FOLDER] [--force]
+"""camtool-new PART [PROGRAM..] [--tools=TABLE] [--tool=N ..] [--stock=X,Y,Z|MARGIN] [--allowance=MM] [--band=MM] [--overcut=MM] [--keep-out=X,Y,X,Y,Z ..] [--rapids=axes] [--start=anywhere] [--spindle] [--words=machine] [--layer=MM] [-o FOLDER] [--force]
 
 Makes the job for a part and the programs that cut it: job.toml, and for several programs list.toml, which names them in
 the order of the call, each with its cutter. With no program it makes a job for `camtool plan`. All that it takes from
@@ -22,6 +22,8 @@ guess is marked `guessed:` there, and told: look at these numbers, or call it ag
 --rapids=axes      rapids may be no straight lines: each axis may run at its own speed
 --start=anywhere   programs start from anywhere: a line with Z alone, at or over `clear`, and then one with X and Y
 --spindle          programs must start the spindle, and say how fast they feed, before they feed
+--words=machine    programs have the words that posts write: inches, offsets, cycles and more; then --start is anywhere or
+                   change, and anywhere if left out
 --layer=MM         for a plan: how much roughing takes off at a time
 -o FOLDER          where the files go; the current folder if left out
 --force            write over files that are there
@@ -113,7 +115,7 @@ class Asked:
         lengths = (length_of(it, getattr(words, it)) for it in ("allowance", "band", "overcut", "layer"))
         self.allowance, self.band, self.overcut, self.layer = lengths
         self.stock = [length_of("stock", it, True) for it in words.stock.split(",")] if words.stock else []
-        self.rapids, self.start, self.spindle = words.rapids, words.start, words.spindle
+        self.rapids, self.start, self.spindle, self.words = words.rapids, words.start, words.spindle, words.words
         self.keep_out = [[length_of("keep-out", it, True) for it in box.split(",")] for box in words.keep_out or []]
         if any(len(it) != 5 or it[0] > it[2] or it[1] > it[3] for it in self.keep_out):
             stop("--keep-out takes X,Y,X,Y,Z in millimetres: the least X and Y, the greatest, and the height")
@@ -123,6 +125,8 @@ class Asked:
             stop("--layer is for a plan: leave out the programs, or the layer")
         if self.overcut is not None and not self.programs:
             stop("--overcut is for programs: a plan keeps off the part")
+        if self.words == "machine" and self.start == "home":
+            stop("--words=machine is for programs that start anywhere: leave out --start, or write --start=change")
         if self.spindle and not self.programs:
             stop("--spindle is for programs: a plan has no feed rate yet")
         if len(self.tools) not in (0, 1, max(len(self.programs), 1)):
@@ -191,7 +195,7 @@ def notes_on(setup, text):
         changed = list(dict.fromkeys(facts.numbers))
         if len(changed) > 1:
             yield f"{name}: it has the tools {', '.join(f'T{it}' for it in changed)}; camtool judges one tool a program: post one program for each, and give them all"
-        if facts.decimals > 2 and setup.unit == "hundredth":
+        if facts.decimals > 2 and setup.unit == "hundredth" and not setup.has_machine_words:
             yield f"{name}: it has {facts.decimals} decimals and needs a job in thousandths, in which no coordinate is over {REACH['thousandth']} mm and no tool over 20 mm wide: have two written"
     wide = [it for it in map(cutters.holder_of, setup.tools) if it]
     if wide and not setup.holder:
@@ -234,6 +238,7 @@ def main(words=None):
     reader.add_argument("--rapids", choices=("straight", "axes"))
     reader.add_argument("--start", choices=("home", "anywhere", "change"))
     reader.add_argument("--spindle", action="store_true")
+    reader.add_argument("--words", choices=("strict", "machine"))
     reader.add_argument("-o", default=".")
     reader.add_argument("--force", action="store_true")
     asked = Asked(reader.read(words))

@@ -204,6 +204,7 @@ def numbers_of(seen):
     boxes = job.get("keep_out", [])
     rows += [("keep_out", f"{command.counted(len(boxes), 'box', 'boxes')}, the highest up to Z{mm(max(it[4] for it in boxes))}")] if boxes else []
     rows += [("rapids", "each axis at its own speed")] if job.get("rapids") == "axes" else []
+    rows += [("words", "those that posts write")] if job.get("words") == "machine" else []
     rows.append(("pitch", f"{mm(job['pitch'])} mm"))
     rows.append(("allowance, band", f"{mm(job['allowance'])} mm, {mm(job['band'])} mm"))
     rows.append(("max_cut", f"{mm(job['max_cut'])} mm" if job.get("max_cut") else "no limit on the depth of a cut"))
@@ -220,7 +221,8 @@ def start_told(job, point):
     if job.get("start", "home") == "home":
         return f"tip over {point((*job['home'], job['clear']))}"
     place = "anywhere" if job["start"] == "anywhere" else "where the tool is changed"
-    return f"from {place}: the first two lines bring the tip to its first place"
+    lines = "its own lines" if job.get("words") == "machine" else "the first two lines"
+    return f"from {place}: {lines} bring the tip to its first place"
 
 
 def table(rows):

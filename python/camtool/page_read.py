@@ -13,7 +13,7 @@ import tempfile
 import time
 from fractions import Fraction
 
-from camtool import page_map, programs, texts
+from camtool import machine_words, page_map, programs, texts
 from camtool.command import read, stop
 from camtool.page_solid import Near
 
@@ -66,7 +66,7 @@ class Seen:
         self.grid = texts.Grid(self.job)
         self.triangles = texts.triangles_of(self.texts[1], self.grid)
         self.near = Near(self.triangles)
-        self.steps = [step_of(self.job, self.grid, *it) for it in self.programs()]
+        self.steps = [step_of(self.job, *it) for it in self.programs()]
 
     def step_names(self):
         """Returns the names of a list's programs."""
@@ -80,10 +80,10 @@ class Seen:
         return [(it["program"], read(it["program"]), {key: it[key] for key in CUTTER if key in it}) for it in steps]
 
 
-def step_of(job, grid, name, text, cutter):
+def step_of(job, name, text, cutter):
     """Returns a program, whose cutter is that of its step in the place of the job's."""
     own = {key: value for key, value in job.items() if not (cutter and key in CUTTER)}
-    return Step(name, {**own, **cutter}, text, texts.moves_of(text, texts.start_of(job), grid))
+    return Step(name, {**own, **cutter}, text, machine_words.moves_of(text, job))
 
 
 def run(*words, folder=None):

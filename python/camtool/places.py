@@ -7,7 +7,7 @@ import re
 from decimal import Decimal
 from fractions import Fraction
 
-from camtool import texts
+from camtool import machine_words, texts
 from camtool.command import counted, quoted, stop
 from camtool.command import read as text_of
 
@@ -74,8 +74,7 @@ class Files:
             self.grid = texts.Grid(self.job)
             self.triangles = texts.triangles_of(text_of(names[1]), self.grid)
             self.job.update(*steps[:1])
-            start = texts.start_of(self.job)
-            self.moves = [it for step in steps for it in texts.moves_of(text_of(step["program"]), start, self.grid)]
+            self.moves = [it for step in steps for it in machine_words.moves_of(text_of(step["program"]), self.job)]
         except (ValueError, ArithmeticError, KeyError) as error:
             stop(f"the files aren't those of the verdict: {error}")
 

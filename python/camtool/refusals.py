@@ -4,7 +4,7 @@ import itertools
 import os
 import re
 
-from camtool import causes, texts
+from camtool import causes, machine_words, texts
 from camtool.command import quoted, stop
 from camtool.command import read as text_of
 from camtool.sentences import sentence_of
@@ -124,9 +124,12 @@ def tell_line(name, refusal, job):
         if word and "," in word:
             return [place, f"{word} has a comma: a number has a point; export the part again, in a language that writes points"]
         return [place, sentence_of(refusal, job, word)]
+    is_machine = machine_words.is_machine(job)
     fault = fault_of(refusal.code, line, grid)
+    if is_machine and refusal.code != "word":
+        fault = machine_words.fault_of(text, refusal.line, refusal.code, job)
     word = fault and fault.told
-    why = why_not(word) if refusal.code == "not-in-profile" else ""
+    why = why_not(word, is_machine) if refusal.code == "not-in-profile" else ""
     cause = causes.cause_of_word(line, fault.start) if fault and refusal.code == "word" else None
     return [place, cause or sentence_of(refusal, job, word, why)]
 

@@ -46,6 +46,9 @@ KEYS = {
     "rapids": ("whether a rapid goes straight, or each axis at its own speed", 'a text, "straight" or "axes"'),
     "start": ("from where a program starts", 'a text, "home", "anywhere" or "change"'),
     "spindle": ("whether a program has to start the spindle", "true or false, without quotes"),
+    "words": ("which words programs have", 'a text, "strict" or "machine"'),
+    "peck_clearance": ("how far over the depth before a cycle stops on its way back down", LEFT),
+    "lengths": ("which tool lengths the machine has", 'a text, "table" or "one"'),
     "steps": ("which programs cut the stock, one after the other", "1 to 16 tables, each under a line [[steps]]"),
     "program": ("the name of the step's program", "a text, in quotes"),
 }
@@ -80,6 +83,7 @@ SENTENCES = {
     "job relation slack stickout": "`slack` isn't under `stickout`, or `holder_radius` and `slack` together are over 10,000: write a lesser `slack`, or measure the holder anew",
     "job relation slack clear": "at `clear` the tip may be under `top` by `slack`, and lower with a cone: raise `clear`, or write a lesser `slack`",
     "job relation keep_out clear": "one of `keep_out` is over `clear`, at which the tip may be lower by `slack`, and lower still with a cone: raise `clear` over clamps and vice",
+    "job relation words start": "`words` is \"machine\" and `start` is \"home\": programs of posts bring the tip to their first place themselves; write `start = \"anywhere\"`",
     "part expected": "another word is expected here: a part is ASCII STL, between `solid NAME` and `endsolid NAME` for each triangle "
     "`facet normal N N N outer loop`, three times `vertex X Y Z`, `endloop endfacet`; export it again",
     "part cut-short": "the text ends before its solid does: `endsolid` is missing, or the file was cut off; export it again",
@@ -102,6 +106,12 @@ SENTENCES = {
     "program no-motion": "the line has an axis, and neither G0 nor G1 is active: none came before, or G80 ended it; write the one that is meant",
     "program no-spindle": "the line feeds, and the spindle doesn't turn: write M3 or M4, and an S over 0, before it; M5 and M6 stop the spindle",
     "program no-feed": "the line feeds without a feed rate: write an F over 0 on it or before it",
+    "program path-control": "{word} asks for a path tolerance that the job doesn't allow: G64 needs a P over 0, of at most {tolerance} mm, which is `slack` less the 3 units of the text's "
+    "rounding; write G61, a lesser P, or a larger `slack` if the machine is to stray so far",
+    "program late-offset": "the line names a value under another tool length or zero than lines before it: take the line of Z before the length out (of FreeCAD's posts for LinuxCNC and Mach3 "
+    "that before M6), or write `lengths = \"one\"` where the machine has no tool table and G43 and G49 move and change nothing",
+    "program cycle": "the cycle isn't whole, or controls differ in what they make of it: it needs R, Z, for G83 and G73 a Q over 0, each since the last G0, G1 or G80; Z not over R; "
+    "G98 or G99 before it; z at R or over it where it goes across; with G98 z at the height where its series began. Have them written, or have moves written",
     "program off-grid": "{word} is finer than the job's unit of {one} mm: have the program written with {decimals} decimals{finer}",
     "program out-of-range": "{word} is over {reach} mm in magnitude: keep the program nearer to its zero{coarser}",
     "program too-many-moves": "the program has over 1,000,000 moves: part it in several, and name them in a list for `rest`",
@@ -119,6 +129,19 @@ SENTENCES = {
     "over nodes": "the lattice has over 4,000,000 places: take a larger `raster` (or `rough_raster`), or a smaller `area`",
     "over moves": "the plan has over 1,000,000 moves: take a larger `raster`, `rough_raster` or `layer`, or a smaller `area`",
     "over triangles": "the surface has over 200,000 triangles: take a larger `pitch`, or a smaller `area`",
+}
+# What else a refusal means by a job whose programs have machine words.
+MACHINE = {
+    "not-in-profile": "{word} isn't among the words that `words = \"machine\"` takes, or its line doesn't take it{why}; docs/FORMATS.md has the table, and which line takes H, P, Q and R",
+    "late-tool": "the line names a place behind a tool change (T or M6), and before that change a place was named already: write a program for each tool, and a list of them for `rest`",
+    "group": "{word} can't stand so: two words of one modal group, an axis beside G4, G15, G50 or G69, or another unit than the program's; write them on lines of their own",
+    "start": "what is known of the tip's place doesn't allow this line: from an unknown place first G0 with Z alone, at or over `clear`, and then G0 with X and Y; "
+    "so too behind T, M6, another offset, G53, G28 or G30. A `clear` over the program's own safe height is refused so: lower it",
+    "no-units": "the line names a place, and neither G21 nor G20 was seen: write the one that is meant at the program's beginning",
+    "no-absolute": "the line names a place, and distances aren't absolute: write G90 before it",
+    "no-motion": "the line has an axis, and no motion mode is active: none came before, or G80 ended it; write the one that is meant",
+    "no-spindle": "the line feeds, and the spindle doesn't turn: write M3 or M4, and an S over 0, before it; M0, M1, M5 and M6 stop the spindle",
+    "off-grid": "{word} is finer than the job's unit of {one} mm: write a `slack` of at least 3, and numbers are rounded{finer}",
 }
 # The greatest coordinate of a job, by how many decimals its unit has.
 GREATEST = {2: 131_071, 3: 524_287}
@@ -149,7 +172,11 @@ def facts_of(job):
     else:
         more = ', or take a job with `unit = "thousandth"`'
         words = ["hundredths of a millimetre", "300", "5", "131,071", "1310.71", "0.01", "two", f"{more}, which takes three", more, ""]
-    return dict(zip("units three five greatest reach one decimals finer finer_part coarser".split(), words))
+    places = 3 if job.get("unit") == "thousandth" else 2
+    slack = job.get("slack", 0)
+    # (of a slack of 3 units and more, 3 are the text's)
+    tolerance = f"{(slack - 3 if slack >= 3 else slack) / 10**places:.{places}f}" if isinstance(slack, int) else "0"
+    return dict(zip("units three five greatest reach one decimals finer finer_part coarser tolerance".split(), [*words, tolerance]))
 
 
 def sentence_of(refusal, job, word=None, why=""):
@@ -157,13 +184,14 @@ def sentence_of(refusal, job, word=None, why=""):
     kinds = [refusal.kind, "job"] if refusal.kind == "list" else [refusal.kind]
     names = [f"{kind} {refusal.code}{rest}".strip() for rest in (f" {refusal.rest}", "") for kind in kinds]
     named = next((it for it in names if it in SENTENCES), None)
+    machine = MACHINE.get(refusal.code) if refusal.kind == "program" and job.get("words") == "machine" else None
     what, form = KEYS.get(refusal.rest, ("", ""))
-    if named is None or (named in ("job missing", "job kind", "job range") and not what):
+    if named is None and not machine or (named in ("job missing", "job kind", "job range") and not what):
         return None
     near = difflib.get_close_matches(refusal.rest, KEYS, 1)
     facts = facts_of(job)
     usual = "a coordinate" if refusal.kind == "part" else "two words" if refusal.code in ("group", "twice") else "a word"
-    return SENTENCES[named].format(
+    return (machine or SENTENCES[named]).format(
         key=quoted(refusal.rest),
         near=f" (`{near[0]}`?)" if near else "",
         what=what,

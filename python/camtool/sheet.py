@@ -23,7 +23,8 @@ import re
 import string
 import sys
 
-from camtool import command, page_read, parts, sheet_facts, texts
+from camtool import command, machine_words, page_read, parts, sheet_facts, texts
+from camtool.job import Job, premises_of
 from camtool.page import base, resource, stop_on_own, table, told_of_tool
 from camtool.version import __version__
 
@@ -69,7 +70,12 @@ class Sheet:
         """Returns the points of the list, in the order in which a shop sees to them."""
         return [
             self.tool(), self.stock(), self.clamps(), self.zero(), self.start(), self.motion(), self.spindle(), self.control(), self.part(),
-            self.left(), self.file()]
+            self.left(), self.file(), *([self.premises()] if machine_words.is_machine(self.job) else [])]
+
+    def premises(self):
+        """Returns the point on what a program in machine words takes for granted of its control."""
+        found = premises_of(Job(self.job), machine_words.read(self.step.text, self.job).premises)
+        return point("Machine words", *(it[0].upper() + it[1:] + "." for it in found))
 
     def tool(self):
         """Returns the point on the tool: which, how wide, how far out."""

@@ -19,7 +19,7 @@ a few units more, half the radius, the radii of two steps swapped, the part with
 
 With --all it tells all that camtool refuses of a program, or of the programs of a list, and not the first
 fault alone. It strikes that in a copy, in a folder for the while, and asks camtool again, up to 200 times; the
-program stays as it is. Of a job it takes the unit, `start` with `clear`, and `spindle`; with none it finds the unit by itself.
+program stays as it is. Of a job it takes the keys by which it reads programs; with none it finds the unit by itself.
 
 This is a help for reading, and no part of what is proved: it reads the texts anew, by itself, and
 takes their form from docs/FORMATS.md. Python 3.9 or later, with its standard library alone.
@@ -169,7 +169,7 @@ def show_all(asked):
     try:
         if asked.names:
             job = texts.job_of(text_of(asked.names[0]))
-            unit, habits = job.get("unit", "hundredth"), {key: job[key] for key in ("start", "clear", "spindle") if key in job}
+            unit, habits = job.get("unit", "hundredth"), {key: job[key] for key in lint.HABITS if key in job}
         is_list = asked.all.endswith(".toml")
         files = list(dict.fromkeys(it["program"] for it in texts.steps_of(text_of(asked.all)))) if is_list else [asked.all]
     except (ValueError, KeyError, TypeError, AttributeError) as error:

@@ -28,6 +28,8 @@ REASONS = {
     "G43 H": "the tool's length: leave it out, in FreeCAD by --no-tlo, and touch off with the tool",
     "G55 G56 G57 G58 G59": "another offset than G54: touch off in G54",
     "G61.1 G64": "a control that rounds corners: leave it out, and write G61, or its tolerance as the job's `slack`",
+    "G15 G50 G69": "polar coordinates, scaling or rotation off: leave it out",
+    "G70 G71": "another control's word for inches or millimetres: write G21",
     "G73 G81 G82 G83 G84 G85 G86 G87 G88 G89 G98 G99 L Q": "a cycle: have moves written, in FreeCAD by the Grbl post with --translate_drill",
     "G90.1 G91.1": "how the middles of arcs are told: leave it out",
     "G91": "relative coordinates: have absolute ones written, with G90",
@@ -36,6 +38,21 @@ REASONS = {
     "M0 M1": "a pause: part the program there",
     "M98 M99 O": "a subprogram: have its moves written out",
     "A B C U V W": "an axis other than X, Y and Z: camtool has three",
+}
+
+# Of these, what a job with `words = "machine"` takes.
+MACHINE = set("G4 P G20 G28 G30 G53 G43 H G55 G56 G57 G58 G59 G61.1 G64 G15 G50 G69 G70 G71 G73 G81 G82 G83 G98 G99 Q R G91.1 G91 M0 M1 O".split())
+# Why words aren't taken with `words = "machine"`, or aren't on some lines, where that is another reason.
+MACHINE_REASONS = {
+    "H": "H stands with G43, and H0 with G49",
+    "P": "P stands with G4, with G64 and in a G82",
+    "Q R": "R and Q stand in G81, G82, G83 and G73",
+    "G28 G30": "it stands with Z alone, or with X or Y, under G91 and with values of 0",
+    "G53": "it stands in a rapid, and with no word of a cycle",
+    "O": "a program's number stands first on a line, before the first place; subprograms aren't read",
+    "G84 G85 G86 G87 G88 G89 G76 L": "a cycle that isn't read: have moves written",
+    "M25 M99": "a word of one control alone: take it out",
+    "G52": "an offset that would shift every move: touch off instead",
 }
 
 
@@ -138,7 +155,10 @@ def coordinate_at_fault(code, line, grid):
     return None
 
 
-def why_not(word):
-    """Returns why a word isn't in the profile, where that is known."""
+def why_not(word, is_machine=False):
+    """Returns why a word isn't in the profile, or with machine words not on its line, where that is known."""
     name = name_of(word.strip("`")) if word else ""
-    return next((f" ({why})" for names, why in REASONS.items() if name in names.split()), "")
+    reasons = {**MACHINE_REASONS, **REASONS} if is_machine else REASONS
+    why = next((it for names, it in reasons.items() if name in names.split()), None)
+    more = "; a job with `words = \"machine\"` reads it" if name in MACHINE and not is_machine else ""
+    return f" ({why}{more})" if why else ""

@@ -102,6 +102,8 @@ class Jobs(test_cutters.InAFolder):
             ("no overcut", [TWO], ["--overcut=0"], dict(radius=300, overcut=None)),
             ("a vice", [TWO], ["--keep-out=-20.001,-5,-2,35,6.5", "--keep-out=42,-5,60,35,6.501", "--rapids=axes", "--start=anywhere", "--spindle"], dict(
                 keep_out=[[-2001, -500, -200, 3500, 650], [4200, -500, 6000, 3500, 651]], rapids="axes", start="anywhere", spindle=True, clear=1300)),
+            ("machine words", [TWO], ["--words=machine"], dict(words="machine", start="anywhere", slack=3, overcut=8, clear=1300)),
+            ("machine words and a changer", [TWO], ["--words=machine", "--start=change", "--overcut=0.1"], dict(words="machine", start="change", overcut=10)),
             ("a plan in a vice", [], ["--tool=1", "--keep-out=-20,-5,-2,35,12"], dict(keep_out=[[-2000, -500, -200, 3500, 1200]], clear=1700, rapids=None, start=None, spindle=None)),
             ("a plan", [], ["--tool=1", "--layer=1"], dict(radius=300, overcut=None, area=[-300, -300, 4300, 3300], layer=100, rough_stock=30, max_cut=130, raster=50, lift=5, home=[0, 0], clear=1301)),
         ):
@@ -113,7 +115,7 @@ class Jobs(test_cutters.InAFolder):
     def test_a_box_over_the_programs(self):
         _, _, printed = self.made("--keep-out=-20,-5,-2,35,13.5", programs_=[TWO])
         self.assertIn("guessed: clear = 1850: 18.50 mm, 5 mm over the stock and what stands on the table; no Z of the programs is over it", printed)
-        for words in (["--keep-out=1,2,3,4"], ["--keep-out=3,2,1,4,5"], ["--spindle"]):
+        for words in (["--keep-out=1,2,3,4"], ["--keep-out=3,2,1,4,5"], ["--spindle"], ["--words=machine", "--start=home"]):
             status, _, errors = ended(new.main, [self.part, "--tool=flat 6", *words])
             self.assertEqual((status, errors != ""), (2, True))
 

@@ -25,28 +25,37 @@ use Rattle.mill_block.specs.declared.plain_move.PlainMove.{PlainMove}
 use Rattle.mill_block.specs.declared.profile.Entry.{Entry}
 use Rattle.mill_block.specs.declared.profile.Effect.TheVariants.{Rate, Motion, X, Y, Z}
 use Rattle.mill_block.specs.declared.profile.Mode.TheVariants.{On}
+use Rattle.mill_block.specs.declared.machine_takes.Takes.{Takes}
 use Rattle.mill_block.specs.declared.progress.Progress.{Progress}
+use Rattle.mill_block.specs.declared.rules.Words.{Words}
+use Rattle.mill_block.specs.declared.rules.Words.TheVariants.{Strict, Machine as MachineWords}
 use Rattle.mill_block.specs.declared.said.Said.{Said}
+use Rattle.mill_block.specs.MachineSaid.{nothing_told, told_from}
+use Rattle.mill_block.specs.MachineTable.{tenths_of}
+use Rattle.mill_block.specs.MachineTakes.{takes_of}
 use Rattle.mill_block.specs.Drives.{driven, driven_or_fault}
 use Rattle.mill_block.specs.declared.progress.Drive.{Drive}
 use Rattle.mill_block.specs.Motion.{acted, coordinate, made_move, moved, target}
 use Rattle.mill_block.specs.Numbers.{axis_units, is_over_zero, signed, whole_of}
 use Rattle.mill_block.specs.Profile.{entry_in, entry_of, g_entry, is_same_group, is_tool, may_repeat, row}
-use Rattle.mill_block.specs.Lines.{after_line, after_words, has_frame, is_percent, line_begun}
+use Rattle.mill_block.specs.Lines.{acted_by, after_line, after_words, has_frame, is_percent, line_begun}
 use Rattle.mill_block.specs.Said.{after_entry, after_word, group_of, has_axis, noted, nothing_said, said_from}
-use Rattle.mill_block.specs.inner.PlainMoves.{AreFree, Goes, HasDrive, IsAxis, IsCapital, IsEnd, IsFree, IsMotion, IsReady, LineMovesTo, MovesTo, ReadTo, Says, TakenTo, made_plain, one_if, rate_of, words_in}
+use Rattle.mill_block.specs.inner.PlainMoves.{AreFree, Goes, HasDrive, IsAxis, IsCapital, IsEnd, IsFree, IsMotion, IsReady, LineMovesTo, MovesTo, ReadTo, Says, SetsMotion, TakenTo, TakesPlain, made_plain, mode_of, one_if, rate_of, told_as, words_in}
+use Rattle.mill_block.proofs.AlikeLemmas.{told-feed, told-first, told-motion, told-none, told-x, told-y, told-z}
+use Rattle.mill_block.proofs.SettledLemmas.{acted-settled}
+use Rattle.mill_block.proofs.ToldLemmas.{told_from-end, told_from-next}
 use Rattle.mill_block.proofs.SaidLemmas.{row-x, row-y, row-z, said_from-end, said_from-first, said_from-next, said_from-none}
 
 -- ---- numbers
 
 -- G0 and G1 set the motion mode
-pub rapid : (n : Num) → n.scale ≡ 0 → n.neg ≡ false → n.mant ≡ 0 → entry_in g_entry (whole_of n) ≡ Some (row 1 (Motion (On Rapid)))
-unfolding whole_of
-rapid n scale neg mant = rw (scale, neg, mant) refl
+pub rapid : (n : Num) → n.scale ≡ 0 → n.neg ≡ false → n.mant ≡ 0 → SetsMotion n Rapid
+unfolding whole_of tenths_of
+rapid n scale neg mant = record { strict = rw (scale, neg, mant) refl; machine = rw (scale, neg, mant) refl }
 
-pub feed : (n : Num) → n.scale ≡ 0 → n.neg ≡ false → n.mant ≡ 1 → entry_in g_entry (whole_of n) ≡ Some (row 1 (Motion (On Feed)))
-unfolding whole_of
-feed n scale neg mant = rw (scale, neg, mant) refl
+pub feed : (n : Num) → n.scale ≡ 0 → n.neg ≡ false → n.mant ≡ 1 → SetsMotion n Feed
+unfolding whole_of tenths_of
+feed n scale neg mant = record { strict = rw (scale, neg, mant) refl; machine = rw (scale, neg, mant) refl }
 
 -- a number with the unit's decimals is its digits
 pub units-at : (unit : LengthUnit) (line : ℕ) (n : Num) → n.scale ≡ places_of unit → n.mant ≤ greatest_of unit → axis_units unit line n ≡ Ok (signed n.neg n.mant)
@@ -131,6 +140,7 @@ goes-x unit line positioned w s plain x letter new axis says =
     record {
       said = record s { groups = s.groups ++ g ∷ []; x = Some w.num };
       taken = taken-by line positioned s w (row 0 X) g (row-x w letter) (rw letter refl) refl refl (says.free.x (rw new refl));
+      told = λ p t begun. told-x p t begun s w letter (says.free.x (rw new refl));
       says = record { x = axis; y = says.y; z = says.z; mode = says.mode; millimetres = says.millimetres; absolute = says.absolute; ends = says.ends; changes = says.changes; spindle = says.spindle; speed = says.speed; rate = says.rate; free = all-free plain (record plain { x = x }) s.groups g left says.free };
     }
 
@@ -142,6 +152,7 @@ goes-y unit line positioned w s plain y letter new axis says =
     record {
       said = record s { groups = s.groups ++ g ∷ []; y = Some w.num };
       taken = taken-by line positioned s w (row 0 Y) g (row-y w letter) (rw letter refl) refl refl (says.free.y (rw new refl));
+      told = λ p t begun. told-y p t begun s w letter (says.free.y (rw new refl));
       says = record { x = says.x; y = axis; z = says.z; mode = says.mode; millimetres = says.millimetres; absolute = says.absolute; ends = says.ends; changes = says.changes; spindle = says.spindle; speed = says.speed; rate = says.rate; free = all-free plain (record plain { y = y }) s.groups g left says.free };
     }
 
@@ -153,6 +164,7 @@ goes-z unit line positioned w s plain z letter new axis says =
     record {
       said = record s { groups = s.groups ++ g ∷ []; z = Some w.num };
       taken = taken-by line positioned s w (row 0 Z) g (row-z w letter) (rw letter refl) refl refl (says.free.z (rw new refl));
+      told = λ p t begun. told-z p t begun s w letter (says.free.z (rw new refl));
       says = record { x = says.x; y = says.y; z = axis; mode = says.mode; millimetres = says.millimetres; absolute = says.absolute; ends = says.ends; changes = says.changes; spindle = says.spindle; speed = says.speed; rate = says.rate; free = all-free plain (record plain { z = z }) s.groups g left says.free };
     }
 
@@ -173,6 +185,7 @@ goes-feed unit line positioned w s plain had letter new has over says =
     record {
       said = record s { groups = s.groups ++ g ∷ []; rate = Some (is_over_zero w.num) };
       taken = taken-by line positioned s w (row 0 Rate) g (row-feed w letter) (rw letter refl) refl refl (says.free.feed new);
+      told = λ p t begun. told-feed p t begun s w letter (says.free.feed new);
       says = record { x = says.x; y = says.y; z = says.z; mode = says.mode; millimetres = says.millimetres; absolute = says.absolute; ends = says.ends; changes = says.changes; spindle = says.spindle; speed = says.speed; rate = rw (has, over) refl; free = all-free plain (record plain { feed = had }) s.groups g left says.free };
     }
 
@@ -184,7 +197,8 @@ goes-motion unit line positioned w s plain (Some kind) letter new motion says =
     let left : AllLeft plain (record plain { kind = Some kind }) g = record { x = inr (refl, refl); y = inr (refl, refl); z = inr (refl, refl); motion = inl refl; feed = inr (refl, refl) } in
     record {
       said = record s { groups = s.groups ++ g ∷ []; mode = Some (On kind) };
-      taken = taken-by line positioned s w (row 1 (Motion (On kind))) g (row-motion w kind letter motion) (rw letter refl) refl refl (says.free.motion (rw new refl));
+      taken = taken-by line positioned s w (row 1 (Motion (On kind))) g (row-motion w kind letter motion.strict) (rw letter refl) refl refl (says.free.motion (rw new refl));
+      told = λ p t begun. told-motion p t begun s w kind letter motion.machine (says.mode ∙ ap mode_of new);
       says = record { x = says.x; y = says.y; z = says.z; mode = refl; millimetres = says.millimetres; absolute = says.absolute; ends = says.ends; changes = says.changes; spindle = says.spindle; speed = says.speed; rate = says.rate; free = all-free plain (record plain { kind = Some kind }) s.groups g left says.free };
     }
 
@@ -241,15 +255,24 @@ acted-plain p s plain m ready says end =
       end.to,
     ) refl
 
--- and so does the line with those words
-after-plain : (p : Progress) (l : Line) (s : Said) → l.slash ≡ false → IsReady p → said_from p.line p.positioned nothing_said l.words ≡ Ok s → after_words p l ≡ acted p s
-unfolding after_words
-after-plain p l s slash ready said = rw (ready.frame (is_blank l), slash, said) refl
+-- and so does the line with those words, by either table
+by-words : (words : Words) (p : Progress) (l : Line) (s : Said) (begun : Bool) (plain : PlainLine) (m : PlainMove) → l.slash ≡ false → IsReady p → TakesPlain words p.machine
+    → said_from p.line p.positioned nothing_said l.words ≡ Ok s → ((q : Progress) (t : Takes) → told_from q t nothing_told l.words ≡ Ok (told_as begun s))
+    → Says p.unit p.line plain s → IsEnd p plain m → acted_by words p l ≡ made_plain p m
+by-words Strict p l s begun plain m slash ready plainly said told says end = rw (slash, said) (acted-plain p s plain m ready says end)
+by-words (MachineWords c) p l s begun plain m slash ready plainly said told says end =
+    let some : has_axis s ≡ true = rw (named p.unit p.line plain.x s.x says.x, named p.unit p.line plain.y s.y says.y, named p.unit p.line plain.z s.z says.z) end.some in
+    rw (slash, told p (takes_of c p l.words)) (acted-settled c p s begun plain m ready plainly says end some (drive-none p.rules.needs_spindle m.kind p.drive p.line ready.drive))
 
-moves-by : (p : Progress) (l : Line) (s : Said) (plain : PlainLine) (m : PlainMove) → l.slash ≡ false → IsReady p → IsInUnitRange p.unit p.here
-    → said_from p.line p.positioned nothing_said l.words ≡ Ok s → Says p.unit p.line plain s → IsEnd p plain m → MovesTo p l m
-moves-by p l s plain m slash ready here said says end = record {
-  moves = after-plain p l s slash ready said ∙ acted-plain p s plain m ready says end;
+after-plain : (p : Progress) (l : Line) → IsReady p → after_words p l ≡ acted_by p.rules.words p l
+unfolding after_words
+after-plain p l ready = rw (ready.frame (is_blank l)) refl
+
+moves-by : (p : Progress) (l : Line) (s : Said) (begun : Bool) (plain : PlainLine) (m : PlainMove) → l.slash ≡ false → IsReady p → IsInUnitRange p.unit p.here
+    → said_from p.line p.positioned nothing_said l.words ≡ Ok s → ((q : Progress) (t : Takes) → told_from q t nothing_told l.words ≡ Ok (told_as begun s))
+    → Says p.unit p.line plain s → IsEnd p plain m → MovesTo p l m
+moves-by p l s begun plain m slash ready here said told says end = record {
+  moves = after-plain p l ready ∙ by-words p.rules.words p l s begun plain m slash ready ready.words said told says end;
   place = ready.place;
   few = ready.few;
   in_range = rw end.to (record {
@@ -263,7 +286,8 @@ moves-to : (p : Progress) (l : Line) (plain : PlainLine) (m : PlainMove) (i : �
     → TakenTo p l.words i plain → length l.words ≤ i → IsEnd p plain m → MovesTo p l m
 moves-to p l plain m i slash ready here to all end =
     let said : said_from p.line p.positioned nothing_said l.words ≡ Ok to.said = said_from-end p.line p.positioned l.words i to.said (said_from p.line p.positioned nothing_said l.words) all to.so_far in
-    moves-by p l to.said plain m slash ready here said to.says end
+    moves-by p l to.said to.begun plain m slash ready here said
+    (λ q t. told_from-end q t l.words i (told_as to.begun to.said) (told_from q t nothing_told l.words) all (to.told q t)) to.says end
 
 -- ---- the words one after another
 
@@ -284,7 +308,7 @@ nothing-says unit line = record {
 }
 
 pub none-taken : (p : Progress) (words : List Word) → TakenTo p words 0 (record { kind = None; feed = false; x = None; y = None; z = None })
-none-taken p words = record { said = nothing_said; so_far = refl; says = nothing-says p.unit p.line }
+none-taken p words = record { said = nothing_said; so_far = refl; begun = false; told = λ q t. refl; says = nothing-says p.unit p.line }
 
 pub one-more-taken : (p : Progress) (words : List Word) (i : ℕ) (d : Word) (old new : PlainLine) → i < length words
     → ((positioned : Bool) (s : Said) → Says p.unit p.line old s → Goes p.unit p.line positioned (get_or words i d) s new)
@@ -294,6 +318,8 @@ one-more-taken p words i d old new lt takes to =
     record {
       said = goes.said;
       so_far = said_from-next p.line p.positioned words i d to.said goes.said (said_from p.line p.positioned nothing_said words) lt goes.taken to.so_far;
+      begun = true;
+      told = λ q t. told_from-next q t words i d (told_as to.begun to.said) (told_as true goes.said) (told_from q t nothing_told words) lt (goes.told q t to.begun) (to.told q t);
       says = goes.says;
     }
 
@@ -320,6 +346,8 @@ none-read p bytes = record {
   slash = refl;
   said = nothing_said;
   so_far = λ more. refl;
+  begun = false;
+  told = λ q t more. refl;
   says = nothing-says p.unit p.line;
   few = omega arith;
 }
@@ -342,13 +370,15 @@ one-more-read p bytes place end n old new capital word takes more to =
       slash = to.slash;
       said = goes.said;
       so_far = λ more. rw (append_assoc to.line.words (w ∷ []) more) (to.so_far (w ∷ more) ∙ said_from-first p.line p.positioned w more to.said goes.said goes.taken);
+      begun = true;
+      told = λ q t more. rw (append_assoc to.line.words (w ∷ []) more) (to.told q t (w ∷ more) ∙ told-first q t w more (told_as to.begun to.said) (told_as true goes.said) (goes.told q t to.begun));
       says = goes.says;
       few = omega (arith, longer, to.few, more);
     }
 
 -- the line's number has no part in whether it is only a move
 ready-begun : (p : Progress) → IsReady p → IsReady (line_begun p)
-ready-begun p ready = record { place = ready.place; drive = ready.drive; few = ready.few; frame = ready.frame; millimetres = ready.millimetres; absolute = ready.absolute }
+ready-begun p ready = record { words = ready.words; place = ready.place; drive = ready.drive; few = ready.few; frame = ready.frame; millimetres = ready.millimetres; absolute = ready.absolute }
 
 end-begun : (p : Progress) (plain : PlainLine) (m : PlainMove) → IsEnd p plain m → IsEnd (line_begun p) plain m
 end-begun p plain m end = record { some = end.some; mode = end.mode; to = end.to }
@@ -363,7 +393,8 @@ line-moves p bytes place plain m ready here to all end =
     record {
       line = to.line;
       told = to.rest (λ lt. absurd (omega arith)) ∙ line_from-end to.line bytes place all;
-      moves = moves-by q to.line to.said plain m to.slash (ready-begun p ready) here said to.says (end-begun p plain m end);
+      moves = moves-by q to.line to.said to.begun plain m to.slash (ready-begun p ready) here said
+          (λ r t. rw (append-nil words) at (to.told r t []) ∙ told-none r t (told_as to.begun to.said)) to.says (end-begun p plain m end);
     }
 
 pub line-moves-if-ended : (o : Option PlainMove) (p : Progress) (bytes : List ℕ) (place : ℕ) (plain : PlainLine) → IsReady p → IsInUnitRange p.unit p.here

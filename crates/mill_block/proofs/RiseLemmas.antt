@@ -45,17 +45,17 @@ parts_by false m s p is grid =
     ∙ sym (mul_assoc (m / 10 ^ (s - p)) (10 ^ (s - p)) (10 ^ p))
     ∙ ap (λ (n : ℕ). n * 10 ^ p) (whole_of_rest m (10 ^ (s - p)) (eqb-true (m % 10 ^ (s - p)) 0 grid))
 
-parts_whole : (unit : LengthUnit) (n : Num) → is_on_grid unit n ≡ true → whole_units unit n * 10 ^ n.scale ≡ n.mant * 10 ^ places_of unit
+pub parts_whole : (unit : LengthUnit) (n : Num) → is_on_grid unit n ≡ true → whole_units unit n * 10 ^ n.scale ≡ n.mant * 10 ^ places_of unit
 parts_whole unit n grid = parts_by (nat_le n.scale (places_of unit)) n.mant n.scale (places_of unit) refl grid
 
 pub signed-times : (neg : Bool) (a b : ℕ) → signed neg (a * b) ≡ signed neg a *ℤ pos b
 signed-times false a b = refl
 signed-times true a b = sym (neg-mul-ℤ (pos a) (pos b))
 
-some_power : (k : ℕ) → 0 < 10 ^ k
+pub some_power : (k : ℕ) → 0 < 10 ^ k
 some_power k = omega (arith, one-le-pow k 10 (omega arith))
 
-at_most : (a b : ℤ) → int_le a b ≡ true → a ≤ℤ b
+pub at_most : (a b : ℤ) → int_le a b ≡ true → a ≤ℤ b
 at_most a b e = omega (e, arith, ints)
 
 -- so it is no lower than a height that its digits reach
@@ -114,7 +114,7 @@ over_by Height p s z may e = inr (over_unnamed p.unit p.line p.here.z z s.z (non
 over_by Nothing p s z may e = inr (over_named p.unit p.line p.here.z z s.z (all_true (is_rapid p.mode) (reaches p.unit p.here.z s.z) (is_some s.x || is_some s.y) may) e)
 
 -- the third coordinate is the end's z
-end_z : (rx ry rz : Result ℤ NgcFault) (to : Pt3) → (rx >>= λ x. ry >>= λ y. rz >>= λ z. Ok (record { x = x; y = y; z = z })) ≡ Ok to → rz ≡ Ok to.z
+pub end_z : (rx ry rz : Result ℤ NgcFault) (to : Pt3) → (rx >>= λ x. ry >>= λ y. rz >>= λ z. Ok (record { x = x; y = y; z = z })) ≡ Ok to → rz ≡ Ok to.z
 end_z (Err f) ry rz to e = absurd cc
 end_z (Ok x) (Err f) rz to e = absurd cc
 end_z (Ok x) (Ok y) (Err f) to e = absurd cc

@@ -1,5 +1,5 @@
 -- What a feed needs beside its end: a spindle that turns, its speed, and a feed rate.
-use Rattle.std.specs.Prelude.{ℕ, ⊤, Bool, true, false, not, ◌&&◌, unwrap_or, if◌then◌else◌, Result, Ok, Err}
+use Rattle.std.specs.Prelude.{ℕ, ⊤, Option, Bool, true, false, not, ◌&&◌, unwrap_or, if◌then◌else◌, Result, Ok, Err}
 use Rattle.mill_base.specs.declared.motion.Kind.{Kind}
 use Rattle.mill_base.specs.declared.motion.Kind.TheVariants.{Rapid, Feed, Dogleg}
 use Rattle.mill_block.specs.declared.fault.NgcFault.{NgcFault}
@@ -15,8 +15,11 @@ abbrev pub full_drive : Drive
 full_drive = record { turns = true; speed = true; rate = true }
 
 -- what there is behind a line that says this: a change of the tool stops the spindle, before the line's own word starts it
+abbrev pub driven_by : Drive → Bool → Option Bool → Option Bool → Option Bool → Drive
+driven_by d changes spindle speed rate = record { turns = unwrap_or spindle (d.turns && not changes); speed = unwrap_or speed d.speed; rate = unwrap_or rate d.rate }
+
 abbrev pub driven : Drive → Said → Drive
-driven d s = record { turns = unwrap_or s.spindle (d.turns && not s.changes); speed = unwrap_or s.speed d.speed; rate = unwrap_or s.rate d.rate }
+driven d s = driven_by d s.changes s.spindle s.speed s.rate
 
 abbrev pub drive_fault : Kind → Drive → ℕ → Result ⊤ NgcFault
 drive_fault Rapid d line = Ok tt

@@ -1,21 +1,19 @@
 -- What a line keeps of the progress before it, and adds to the moves before it.
-use Rattle.std.specs.Prelude.{◌≡◌, ℕ, ◌+◌, ◌≤◌, ◌≤ℤ◌, ◌⊎◌, List, [], ◌∷◌, ◌++◌, length, Result, Ok}
+use Rattle.std.specs.Prelude.{◌≡◌, ℕ, ◌+◌, ◌≤◌, ◌≤ℤ◌, ◌⊎◌, List, [], ◌∷◌, ◌++◌, length, IfSome, Result, Ok}
 use Rattle.mill_base.specs.declared.limits.TheConstants.{MAX_MOVES}
 use Rattle.mill_base.specs.Motion.{Follow}
+use Rattle.mill_base.specs.Numbers.{Within}
 use Rattle.mill_base.specs.Ranges.{IsInUnitRange, MovesInUnitRange}
+use Rattle.mill_base.specs.Units.{greatest_of}
 use Rattle.mill_base.specs.declared.motion.Move.{Move}
 use Rattle.mill_base.specs.declared.points.Pt3.{Pt3}
+use Rattle.mill_control.specs.Drilled.{FitsSeries, ends_at}
 use Rattle.mill_block.specs.declared.fault.NgcFault.{NgcFault}
 use Rattle.mill_block.specs.declared.progress.Progress.{Progress}
 use Rattle.mill_block.specs.declared.progress.Known.{Known}
 use Rattle.mill_block.specs.declared.progress.Known.TheVariants.{All}
 use Rattle.mill_block.specs.Lines.{after_line, line_begun}
 use Rattle.mill_block.specs.Motion.{known_of}
-
--- where the tool stands behind the moves
-abbrev pub end_of : Pt3 → List Move → Pt3
-end_of at [] = at
-end_of at (m ∷ moves) = end_of m.to moves
 
 -- where a line's moves begin: at the point before the line, or where its place wasn't known, at the point behind it
 abbrev pub begins : Known → Pt3 → Pt3 → Pt3
@@ -25,13 +23,19 @@ begins known before behind = behind
 abbrev pub begin_of : Progress → Progress → Pt3
 begin_of old new = begins (known_of old) old.here new.here
 
--- a line's moves follow on from there to the point behind it, and are so many more of at most 1,000,000; they come only where the tool's place is known behind them, and it stays known; before it was, the tool gets no lower; the unit, what is asked beside and the count of lines stay as they are
+-- the safe height is in range, and the numbers that stay from line to line have at most 18 digits
+pub record FitsProgress (p : Progress) : Type 0 where
+  pub clear_fits : Within (greatest_of p.unit) p.clear
+  pub series_fits : IfSome p.machine.series FitsSeries
+
+-- a line's moves follow on from there to the point behind it, and are so many more of at most 1,000,000; they come only where the tool's place is known behind them, and it stays known; before it was, the tool gets no lower, or no lower than the safe height, which stays; the unit, what is asked beside and the count of lines stay as they are
 pub record Keeps (old : Progress) (made : List Move) (new : Progress) : Type 0 where
   pub follow : Follow (begin_of old new) made
-  pub end : end_of (begin_of old new) made ≡ new.here
+  pub end : ends_at (begin_of old new) made ≡ new.here
   pub known : known_of old ≡ All → known_of new ≡ All
   pub none : (known_of new ≡ All) ⊎ (made ≡ [])
-  pub rises : (known_of old ≡ All) ⊎ (old.here.z ≤ℤ new.here.z)
+  pub rises : (known_of old ≡ All) ⊎ ((old.here.z ≤ℤ new.here.z) ⊎ (old.clear ≤ℤ new.here.z))
+  pub same_clear : new.clear ≡ old.clear
   pub same_rules : new.rules ≡ old.rules
   pub in_range : MovesInUnitRange old.unit made
   pub here : IsInUnitRange old.unit new.here

@@ -3,6 +3,11 @@ pub mod Profile
 pub mod Said
 pub mod Drives
 pub mod Motion
+pub mod MachineTable
+pub mod MachineTakes
+pub mod MachineSaid
+pub mod MachineSettings
+pub mod MachineLines
 pub mod Lines
 pub mod Kept
 pub mod inner

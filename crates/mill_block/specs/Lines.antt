@@ -16,17 +16,22 @@ use Rattle.mill_block.specs.declared.progress.Frame.TheVariants.{Unknown, Framed
 use Rattle.mill_block.specs.declared.progress.Known.TheVariants.{Nothing}
 use Rattle.mill_block.specs.declared.progress.Progress.{Progress}
 use Rattle.mill_block.specs.declared.rules.Rules.{Rules}
+use Rattle.mill_block.specs.declared.rules.Words.{Words}
+use Rattle.mill_block.specs.declared.rules.Words.TheVariants.{Strict, Machine}
+use Rattle.mill_block.specs.MachineLines.{machine_acted}
+use Rattle.mill_block.specs.MachineSaid.{told_line}
+use Rattle.mill_block.specs.MachineSettings.{machine_begun}
 use Rattle.mill_block.specs.Drives.{no_drive}
 use Rattle.mill_block.specs.Said.{◌>>=◌, said_by}
 use Rattle.mill_block.specs.Motion.{acted}
 
 -- a reader asks nothing beside of a program
 abbrev pub no_rules : Rules
-no_rules = record { from_anywhere = false; needs_spindle = false }
+no_rules = record { from_anywhere = false; needs_spindle = false; words = Strict }
 
 -- before the first line nothing is settled yet, and the tool stands at this point, or anywhere; coordinates are in this unit
 abbrev pub start_at : Pt3 → Unit → Rules → Progress
-start_at p unit rules = record { rules = rules; unit = unit; here = p; known = Nothing; drive = no_drive; mode = Off; millimetres = false; absolute = false; positioned = false; frame = Unknown; ended = false; moves = 0; line = 0 }
+start_at p unit rules = record { rules = rules; unit = unit; clear = p.z; here = p; known = Nothing; machine = machine_begun; drive = no_drive; mode = Off; millimetres = false; absolute = false; positioned = false; frame = Unknown; ended = false; moves = 0; line = 0 }
 
 -- ---- the frame
 
@@ -63,8 +68,12 @@ with_line p blank = record p { frame = frame_after p.frame blank }
 -- ---- a line
 
 -- what the words of a line do
+abbrev pub acted_by : Words → Progress → Line → Result (Progress × List Move) NgcFault
+acted_by Strict p l = said_by p.line p.positioned l >>= acted p
+acted_by (Machine c) p l = told_line c p l >>= machine_acted c p
+
 unfoldable pub after_words : Progress → Line → Result (Progress × List Move) NgcFault
-after_words p l = said_by p.line p.positioned l >>= acted (with_line p (is_blank_line l))
+after_words p l = acted_by p.rules.words (with_line p (is_blank_line l)) l
 
 abbrev pub words_or_fault : ℕ → Result Line WordFault → Result Line NgcFault
 words_or_fault line (Ok l) = Ok l

@@ -31,11 +31,19 @@ pub enum NgcFault {
     /// The line has a letter other than `G` and `M` twice (NISTIR 6556, 3.3.4).
     #[error("line {line}: `{}` twice", char::from(*.letter))]
     Twice { line: u64, letter: u8 },
+    /// With a machine's words: a `G64` whose tolerance is missing, not over 0, or greater than the
+    /// job allows.
+    #[error("line {line}: a path tolerance that is missing or too great")]
+    PathControl { line: u64 },
     /// Where the tool may stand anywhere before the program: the first line with an axis word isn't
     /// a rapid with Z alone, at or over the height of the reader's start, or the second one isn't a
     /// rapid with X and Y both and no Z.
     #[error("line {line}: not the way up and across that a program begins with")]
     Start { line: u64 },
+    /// With a machine's words: a coordinate is named under another tool length, or another zero,
+    /// than the first one was.
+    #[error("line {line}: a coordinate under another offset than the first one")]
+    LateOffset { line: u64 },
     /// An axis word, and no `G21` so far (NISTIR 6556, 3.5.7).
     #[error("line {line}: a move before G21")]
     NoUnits { line: u64 },
@@ -52,6 +60,10 @@ pub enum NgcFault {
     /// A feed is asked to have a spindle, and the last `F` isn't over 0.
     #[error("line {line}: a feed without a feed rate")]
     NoFeed { line: u64 },
+    /// With a machine's words: a drilling cycle that lacks a word, or that controls run
+    /// differently.
+    #[error("line {line}: a drilling cycle that is not whole, or that controls run differently")]
+    Cycle { line: u64 },
     /// An axis word's number isn't a whole number of units.
     #[error("line {line}: an axis number that is not a whole number of units")]
     OffGrid { line: u64 },
@@ -84,6 +96,14 @@ impl<T: Drop> From<AllocFailed<T>> for NgcFault {
     ghost from_gives = { λ _ e. e ≡ WantOfMemory };
 
     fn from(_: AllocFailed<T>) -> Self {
+        NgcFault::WantOfMemory
+    }
+}
+
+impl From<mill_base::WantOfMemory> for NgcFault {
+    ghost from_gives = { λ _ e. e ≡ WantOfMemory };
+
+    fn from(_: mill_base::WantOfMemory) -> Self {
         NgcFault::WantOfMemory
     }
 }

@@ -7,11 +7,22 @@
 //! (`specs/Kept.antt`). `specs/Profile.antt` has the table of words, `specs/Said.antt` and
 //! `specs/Motion.antt` what a line's words say and do, and what is asked of it beside
 //! (`src/rules.rt`).
+//!
+//! A program for a machine may have more words, which `specs/MachineTable.antt`,
+//! `specs/MachineTakes.antt`, `specs/MachineSaid.antt`, `specs/MachineSettings.antt` and
+//! `specs/MachineLines.antt` tell of in the same way, over the tables of `mill_control`.
 #![tactic(auto)]
 
 mod fault;
 mod groups;
 mod line_reader;
+mod machine;
+mod machine_hole;
+mod machine_line;
+mod machine_said;
+mod machine_settings;
+mod machine_table;
+mod machine_takes;
 mod motion;
 mod numbers;
 mod plain_move;
@@ -23,4 +34,4 @@ mod said;
 
 pub use fault::NgcFault;
 pub use line_reader::{LONGEST_LINE, LineReader};
-pub use rules::Rules;
+pub use rules::{Control, Rules, Words};

@@ -11,18 +11,23 @@ ghost use Rattle.mill_block.specs.declared.progress.Progress.{Progress};
 ghost use Rattle.mill_block.specs.Lines.{start_at, is_percent as is_percent_line};
 ghost use Rattle.mill_block.specs.Lines.{percent_step as percent_step_by, has_frame, with_percent};
 ghost use Rattle.mill_block.specs.Lines.{with_line, line_begun, after_line, after_words};
-ghost use Rattle.mill_block.specs.Lines.{words_or_fault};
-ghost use Rattle.mill_block.specs.Kept.{Adds, AddsLine, Keeps};
+ghost use Rattle.mill_block.specs.Lines.{words_or_fault, acted_by};
+ghost use Rattle.mill_block.specs.declared.rules.Words.TheVariants.{Strict};
+ghost use Rattle.mill_block.specs.declared.rules.Words.TheVariants.{Machine as MachineWords};
+ghost use Rattle.mill_block.specs.Kept.{Adds, AddsLine, Keeps, FitsProgress};
 ghost use Rattle.mill_block.specs.Motion.{known_of};
 ghost use Rattle.mill_block.specs.declared.progress.Known.TheVariants.{All};
+ghost use Rattle.mill_block.specs.inner.Bounds.{Stays};
 ghost use Rattle.mill_block.specs.inner.PlainMoves.{made_plain};
 
 use crate::fault::NgcFault;
+use crate::machine::Machine;
+use crate::machine_said::MachineSaid;
 use crate::motion::add;
 use crate::plain_move::PlainMove;
 use crate::profile::Mode;
 use crate::progress::{Drive, Frame, Known, Progress};
-use crate::rules::Rules;
+use crate::rules::{Control, Rules, Words};
 use crate::said::Said;
 use mill_base::{MAX_MOVES, Move, Pt3, Unit};
 use mill_words::{LineWords, read_line_into};
@@ -34,34 +39,40 @@ pub const LONGEST_LINE: usize = 256;
 /// Reads the lines of a program one after another, up to its first fault.
 ///
 /// It shows what the lines so far have settled: where the tool stands, the motion mode, whether the
-/// program has ended, and how many lines and moves there were. Beside that it lends room for a line's
-/// words, so that none is moved.
+/// program has ended, and how many lines and moves there were. Beside that it lends room for a
+/// line's words, so that none is moved.
 #[derive(Drop)]
 pub struct LineReader {
     progress: Progress,
     words: LineWords,
     said: Said,
+    told: MachineSaid,
 }
 
 impl Model for LineReader {
     ghost Value = { Progress };
 
     ghost view = { λ r. r.progress };
+
+    ghost invariant = { λ r. FitsProgress r.progress };
 }
 
 impl LineReader {
     /// A reader before the first line, with the tool at this point and coordinates in this unit,
     /// that asks this beside of the program. Where the tool may be anywhere, the point's z alone
-    /// counts: the least height of the way up.
+    /// counts: the least height of the way up, and with a machine's words the safe height.
     pub fn new(start: Pt3, unit: Unit, rules: Rules) -> Self
+        requires { IsInUnitRange unit start }
         ensures { result ≡ start_at start unit rules }
     {
         LineReader {
             progress: Progress {
                 rules,
                 unit,
+                clear: start.z,
                 here: start,
                 known: Known::Nothing,
+                machine: Machine::BEGUN,
                 drive: Drive::NONE,
                 mode: Mode::Off,
                 millimetres: false,
@@ -74,6 +85,7 @@ impl LineReader {
             },
             words: LineWords::new(),
             said: Said::new(),
+            told: MachineSaid::new(),
         }
     }
 
@@ -93,12 +105,14 @@ impl LineReader {
 
     /// Takes the next line, without its line end, and adds the moves that it makes to `out`.
     ///
-    /// The answer is the line's fault, if it has one, or `WantOfMemory` where `out` can't grow. Then
-    /// nothing is added, and the reader isn't to be fed again. The tool is to stand in the unit's range,
-    /// where each line leaves it, and lines are to be fewer than 2^63.
-    // Most lines are only a move and spelled as most are, and are read without what other lines need.
-    // A move is added where it is made, so that it stays in registers.
+    /// The answer is the line's fault, if it has one, or `WantOfMemory` where `out` can't grow.
+    /// Then nothing is added, and the reader isn't to be fed again. The tool is to stand in the
+    /// unit's
+    /// range, where each line leaves it, and lines are to be fewer than 2^63.
+    // Most lines are only a move and spelled as most are, and are read without what other lines
+    // need. A move is added where it is made, so that it stays in registers.
     #[inline(always)]
+    #[tactic(auto, using(crate::proofs::KeptLemmas::stays_fit))]
     pub fn read_line(&mut self, line: &[u8], out: &mut Vec<Move>) -> Result<(), NgcFault>
         requires here { IsInUnitRange self.old.unit self.old.here }
         requires number { self.old.line < 2 ^ 63 }
@@ -113,10 +127,12 @@ impl LineReader {
         self.read_any_line(line, out)
     }
 
-    /// The same as `read_line`, word for word. It costs more for a line that is only a move, and stands
-    /// in one place of the program: it is for lines that come seldom.
-    // (lines of other spellings come here too, so that those of `read_line` need not make room for them)
+    /// The same as `read_line`, word for word. It costs more for a line that is only a move, and
+    /// stands in one place of the program: it is for lines that come seldom.
+    // (lines of other spellings come here too, so that those of `read_line` need not make room for
+    // them)
     #[inline(never)]
+    #[tactic(auto, using(crate::proofs::KeptLemmas::stays_fit))]
     pub fn read_any_line(&mut self, line: &[u8], out: &mut Vec<Move>) -> Result<(), NgcFault>
         requires here { IsInUnitRange self.old.unit self.old.here }
         requires number { self.old.line < 2 ^ 63 }
@@ -133,7 +149,7 @@ impl LineReader {
 
     // The same of any line. It is kept apart, since most lines are plain.
     #[inline(never)]
-    #[tactic(auto, unfolding(crate::specs::Lines::after_line))]
+    #[tactic(auto, using(crate::proofs::KeptLemmas::stays_fit), unfolding(crate::specs::Lines::after_line))]
     fn act_any_line(&mut self, line: &[u8], out: &mut Vec<Move>) -> Result<(), NgcFault>
         requires here { IsInUnitRange self.old.unit self.old.here }
         requires number { self.old.line < 2 ^ 63 }
@@ -153,7 +169,8 @@ impl LineReader {
             return Ok(());
         }
         read_words(self.progress.line, line, &mut self.words)?;
-        self.progress.act_words(&self.words, &mut self.said, out)
+        self.progress
+            .act_words(&self.words, &mut self.said, &mut self.told, out)
     }
 }
 
@@ -167,6 +184,7 @@ impl Progress {
             after_line self.old line.now ≡ Ok (self.new, made ∷ [])) }
         ensures keeps { IfSome result (λ made. Keeps (line_begun self.old) (made ∷ []) self.new) }
         ensures stays { result ≡ None → self.new ≡ self.old }
+        ensures bounds { Stays self.old self.new }
     {
         if line.len() > LONGEST_LINE || has_percent(self.frame, line) {
             return None;
@@ -185,6 +203,7 @@ impl Progress {
             after_line self.old line.now ≡ Ok (self.new, made ∷ [])) }
         ensures keeps { IfSome result (λ made. Keeps (line_begun self.old) (made ∷ []) self.new) }
         ensures stays { result ≡ None → self.new ≡ self.old }
+        ensures bounds { Stays self.old self.new }
     {
         if line.len() > LONGEST_LINE || has_percent(self.frame, line) {
             return None;
@@ -195,24 +214,28 @@ impl Progress {
     }
 
     // Does what the words of the line say.
+    #[tactic(auto, using(crate::proofs::KeptLemmas::stays_fit))]
     fn act_words(
         &mut self,
         words: &LineWords,
         said: &mut Said,
+        told: &mut MachineSaid,
         out: &mut Vec<Move>,
     ) -> Result<(), NgcFault>
         requires here { IsInUnitRange self.old.unit self.old.here }
+        requires fits { FitsProgress self.old }
         ensures ok { OnOk result
             (Adds (after_words self.old words.now) self.old out.old.items self.new out.new.items) }
         ensures fault { IfErr result (λ f. f ≢ faults.WantOfMemory →
             after_words self.old words.now ≡ Err f) }
         ensures kept { OnErr result (out.new.items ≡ out.old.items) }
+        ensures fits { FitsProgress self.new }
     {
         if let Some(plain) = self.plain_move(words) {
             let made = self.make_plain(plain);
             return add(out, made);
         }
-        self.act_any_words(words, said, out)
+        self.act_any_words(words, said, told, out)
     }
 
     // Makes the move of a line that is only that.
@@ -224,6 +247,7 @@ impl Progress {
         requires to { IsInUnitRange self.old.unit plain.to }
         ensures made { made_plain self.old plain ≡ Ok (self.new, result ∷ []) }
         ensures keeps { Keeps self.old (result ∷ []) self.new }
+        ensures bounds { Stays self.old self.new }
     {
         self.mode = Mode::On(plain.kind);
         self.ended = false;
@@ -232,28 +256,76 @@ impl Progress {
 
     // The same of any line. It is kept apart, since most lines are only a move.
     #[inline(never)]
-    #[tactic(auto, unfolding(crate::specs::Lines::after_words))]
+    #[tactic(auto, using(crate::proofs::KeptLemmas::stays_fit), unfolding(crate::specs::Lines::after_words))]
     fn act_any_words(
+        &mut self,
+        words: &LineWords,
+        said: &mut Said,
+        told: &mut MachineSaid,
+        out: &mut Vec<Move>,
+    ) -> Result<(), NgcFault>
+        requires here { IsInUnitRange self.old.unit self.old.here }
+        requires fits { FitsProgress self.old }
+        ensures ok { OnOk result
+            (Adds (after_words self.old words.now) self.old out.old.items self.new out.new.items) }
+        ensures fault { IfErr result (λ f. f ≢ faults.WantOfMemory →
+            after_words self.old words.now ≡ Err f) }
+        ensures kept { OnErr result (out.new.items ≡ out.old.items) }
+        ensures fits { FitsProgress self.new }
+    {
+        self.know_frame(words.is_blank());
+        match self.rules.words {
+            Words::Strict => self.act_strict(words, said, out),
+            Words::Machine(control) => self.act_machine(control, words, told, out),
+        }
+    }
+
+    // Does what the words say as those of the short table.
+    #[tactic(auto, using(crate::proofs::KeptLemmas::stays_fit))]
+    fn act_strict(
         &mut self,
         words: &LineWords,
         said: &mut Said,
         out: &mut Vec<Move>,
     ) -> Result<(), NgcFault>
         requires here { IsInUnitRange self.old.unit self.old.here }
-        ensures ok { OnOk result
-            (Adds (after_words self.old words.now) self.old out.old.items self.new out.new.items) }
+        requires fits { FitsProgress self.old }
+        ensures ok { OnOk result (Adds (acted_by Strict self.old words.now)
+            self.old out.old.items self.new out.new.items) }
         ensures fault { IfErr result (λ f. f ≢ faults.WantOfMemory →
-            after_words self.old words.now ≡ Err f) }
+            acted_by Strict self.old words.now ≡ Err f) }
         ensures kept { OnErr result (out.new.items ≡ out.old.items) }
+        ensures fits { FitsProgress self.new }
     {
         said.read(self.line, self.positioned, words)?;
-        self.know_frame(words.is_blank());
         self.act(said, out)
+    }
+
+    // Does what the words say as those of a machine's program.
+    fn act_machine(
+        &mut self,
+        control: Control,
+        words: &LineWords,
+        told: &mut MachineSaid,
+        out: &mut Vec<Move>,
+    ) -> Result<(), NgcFault>
+        requires here { IsInUnitRange self.old.unit self.old.here }
+        requires fits { FitsProgress self.old }
+        ensures ok { OnOk result (Adds (acted_by (MachineWords control) self.old words.now)
+            self.old out.old.items self.new out.new.items) }
+        ensures fault { IfErr result (λ f. f ≢ faults.WantOfMemory →
+            acted_by (MachineWords control) self.old words.now ≡ Err f) }
+        ensures kept { OnErr result (out.new.items ≡ out.old.items) }
+        ensures fits { FitsProgress self.new }
+    {
+        told.read(control, self, words)?;
+        self.act_for_machine(control, told, out)
     }
 
     // A line that isn't blank, and isn't a `%` alone, shows that a program isn't framed.
     fn know_frame(&mut self, blank: bool)
-        ensures { self.new ≡ with_line self.old blank }
+        ensures value { self.new ≡ with_line self.old blank }
+        ensures bounds { Stays self.old self.new }
     {
         match self.frame {
             Frame::Unknown if !blank => self.frame = Frame::Plain,
@@ -263,7 +335,8 @@ impl Progress {
 
     // A `%` line begins the program's frame, or ends it.
     fn take_percent(&mut self)
-        ensures { self.new ≡ with_percent self.old }
+        ensures value { self.new ≡ with_percent self.old }
+        ensures bounds { Stays self.old self.new }
     {
         match self.frame {
             Frame::Framed => self.ended = true,

@@ -13,7 +13,7 @@ ghost use Rattle.mill_block.specs.Motion.{made_move, risen, began, gone, moved_b
 ghost use Rattle.mill_block.specs.declared.progress.Known.TheVariants.{Height, All};
 ghost use Rattle.mill_block.specs.Kept.{Adds, Keeps};
 ghost use Rattle.mill_block.specs.declared.fault.NgcFault.TheVariants as faults;
-ghost use Rattle.mill_block.specs.inner.Bounds.{FitsSaid};
+ghost use Rattle.mill_block.specs.inner.Bounds.{FitsSaid, Stays};
 
 use crate::fault::NgcFault;
 use crate::numbers::{is_at_or_over, units_of};
@@ -35,6 +35,7 @@ impl Progress {
         ensures fault { IfErr result (λ f. f ≢ faults.WantOfMemory →
             acted self.old said.now ≡ Err f) }
         ensures kept { OnErr result (out.new.items ≡ out.old.items) }
+        ensures stays { Stays self.old self.new }
     {
         self.settle(said);
         if said.has_axis() {
@@ -70,6 +71,7 @@ impl Progress {
         ensures fault { IfErr result (λ f. f ≢ faults.WantOfMemory →
             moved self.old said.now ≡ Err f) }
         ensures kept { OnErr result (out.new.items ≡ out.old.items) }
+        ensures stays { Stays self.old self.new }
     {
         if !self.may_come(said) {
             return Err(NgcFault::Start { line: self.line });
@@ -118,8 +120,8 @@ impl Progress {
         }
     }
 
-    // Whether a move of this kind comes with what it is asked to come with.
-    fn check_drive(&self, kind: Kind) -> Result<(), NgcFault>
+    /// Whether a move of this kind comes with what it is asked to come with.
+    pub fn check_drive(&self, kind: Kind) -> Result<(), NgcFault>
         ensures ok { OnOk result (driven_or_fault self.now.rules.needs_spindle kind
             self.now.drive self.now.line ≡ Ok tt) }
         ensures fault { IfErr result (λ f. driven_or_fault self.now.rules.needs_spindle kind
@@ -131,7 +133,8 @@ impl Progress {
         Ok(())
     }
 
-    // Where the line's move ends: the named coordinates take the place of those of the present point.
+    // Where the line's move ends: the named coordinates take the place of those of the present
+    // point.
     #[tactic(auto, unfolding(crate::specs::Motion::target))]
     fn target(&self, said: &Said) -> Result<Pt3, NgcFault>
         requires said { FitsSaid said.now }
@@ -155,6 +158,7 @@ impl Progress {
         ensures fault { IfErr result (λ f. f ≢ faults.WantOfMemory →
             gone (known_of self.old) self.old kind to ≡ Err f) }
         ensures kept { OnErr result (out.new.items ≡ out.old.items) }
+        ensures stays { Stays self.old self.new }
     {
         match self.known_place() {
             Known::Nothing => {
@@ -184,6 +188,7 @@ impl Progress {
             (Adds (began self.old to) self.old out.old.items self.new out.new.items) }
         ensures fault { IfErr result (λ f. f ≢ faults.WantOfMemory → began self.old to ≡ Err f) }
         ensures kept { OnErr result (out.new.items ≡ out.old.items) }
+        ensures stays { Stays self.old self.new }
     {
         if self.moves > MAX_MOVES as u64 - 2 {
             return Err(NgcFault::TooManyMoves { line: self.line });
@@ -201,8 +206,8 @@ impl Progress {
         Ok(())
     }
 
-    // Adds a move to this point, unless there are 1,000,000 already.
-    fn move_to(&mut self, kind: Kind, to: Pt3, out: &mut Vec<Move>) -> Result<(), NgcFault>
+    /// Adds a move to this point, unless there are 1,000,000 already.
+    pub fn move_to(&mut self, kind: Kind, to: Pt3, out: &mut Vec<Move>) -> Result<(), NgcFault>
         requires place { known_of self.old ≡ All }
         requires here { IsInUnitRange self.old.unit self.old.here }
         requires to { IsInUnitRange self.old.unit to }
@@ -211,6 +216,7 @@ impl Progress {
         ensures fault { IfErr result (λ f. f ≢ faults.WantOfMemory →
             made_move self.old kind to ≡ Err f) }
         ensures kept { OnErr result (out.new.items ≡ out.old.items) }
+        ensures stays { Stays self.old self.new }
     {
         if self.moves >= MAX_MOVES as u64 {
             return Err(NgcFault::TooManyMoves { line: self.line });
@@ -228,6 +234,7 @@ impl Progress {
         requires to { IsInUnitRange self.old.unit to }
         ensures made { made_move self.old kind to ≡ Ok (self.new, result ∷ []) }
         ensures keeps { Keeps self.old (result ∷ []) self.new }
+        ensures stays { Stays self.old self.new }
     {
         let made = Move {
             kind,
@@ -255,7 +262,8 @@ pub(crate) fn add(moves: &mut Vec<Move>, made: Move) -> Result<(), NgcFault>
     Ok(())
 }
 
-fn is_rapid(mode: Mode) -> bool
+/// Whether the motion mode is a rapid's.
+pub(crate) fn is_rapid(mode: Mode) -> bool
     ensures { result ≡ is_rapid_mode mode }
 {
     matches!(mode, Mode::On(Kind::Rapid))

@@ -106,7 +106,8 @@ fn whole_units(num: Num, unit: Unit) -> u128
     u128::from(num.mant / power(num.scale - places))
 }
 
-fn power(scale: u8) -> u64
+/// A power of ten.
+pub(crate) fn power(scale: u8) -> u64
     requires { scale ≤ 18 }
     ensures value { result ≡ 10 ^ scale }
     ensures some { 0 < result }

@@ -1,8 +1,10 @@
 //! Lines that are only a move, as most lines of a program are: axis words, and with them a `G0` or
 //! `G1` and an `F`, or none.
 //!
-//! They are read without what other lines need, and where their words are plain, straight from their
-//! bytes. Where anything else stands on a line, it is read as any line is.
+//! They are read without what other lines need, and where their words are plain, straight from
+//! their bytes. Where anything else stands on a line, it is read as any line is; and so is each
+//! line of a
+//! program for a machine, while such a line might change or break what its words have settled.
 ghost use Rattle.std.specs.Prelude.{◌≡◌, ◌+◌, ◌<◌, ◌^◌, length, Bool, true, false, None, Some};
 ghost use Rattle.std.specs.Prelude.{IfSome, IsTrue, unwrap_or};
 ghost use Rattle.mill_base.specs.Ranges.{IsInUnitRange};
@@ -16,11 +18,12 @@ ghost use Rattle.mill_block.specs.Numbers.{is_over_zero as is_over_zero_number};
 ghost use Rattle.mill_block.specs.declared.progress.Known.TheVariants.{All};
 ghost use Rattle.mill_block.specs.inner.PlainMoves.{Goes, HasDrive, IsAxis, IsCapital, IsEnd};
 ghost use Rattle.mill_block.specs.inner.PlainMoves.{IsMotion, IsReady, IsUnits, LineMovesTo};
-ghost use Rattle.mill_block.specs.inner.PlainMoves.{MovesTo, Says, mode_of, words_in};
+ghost use Rattle.mill_block.specs.inner.PlainMoves.{MovesTo, Says, TakesPlain, mode_of, words_in};
 
 use crate::numbers::{is_over_zero, signed, units_of};
 use crate::profile::Mode;
 use crate::progress::{Frame, Known, Progress};
+use crate::rules::Words;
 use mill_base::{Kind, MAX_MOVES, Pt3, Unit};
 use mill_words::{LineWords, Num, Word, plain_number_behind};
 
@@ -45,8 +48,8 @@ pub(crate) struct PlainMove {
 }
 
 impl Progress {
-    /// The move of the next line, if its words are plain and it is only that, and the lines before it
-    /// have settled what a move needs.
+    /// The move of the next line, if its words are plain and it is only that, and the lines before
+    /// it have settled what a move needs.
     #[inline(always)]
     pub fn plain_line(&self, line: &[u8]) -> Option<PlainMove>
         requires here { IsInUnitRange self.now.unit self.now.here }
@@ -100,8 +103,20 @@ impl Progress {
                 self.millimetres
                     && self.absolute
                     && self.moves < MAX_MOVES as u64
+                    && self.takes_plain()
                     && self.asks_no_more()
             }
+        }
+    }
+
+    // Whether such a line does nothing beside, with the words that the program may have.
+    #[inline(always)]
+    fn takes_plain(&self) -> bool
+        ensures { IsTrue result → TakesPlain self.now.rules.words self.now.machine }
+    {
+        match self.rules.words {
+            Words::Strict => true,
+            Words::Machine(_) => self.machine.is_settled(),
         }
     }
 
@@ -194,7 +209,8 @@ pub(crate) fn kind_in(named: Option<Kind>, mode: Mode) -> Option<Kind>
     }
 }
 
-// Takes an axis number, where the line has no other of its axis, and it is on the grid and in range.
+// Takes an axis number, where the line has no other of its axis, and it is on the grid and in
+// range.
 #[inline(always)]
 fn take_axis(axis: &mut Option<i32>, line: u64, unit: Unit, num: Num) -> bool
     requires { FitsNum 18 num }
@@ -237,8 +253,8 @@ pub(crate) fn whole_units(_line: u64, unit: Unit, num: Num) -> Option<i32>
     Some(signed(num.neg, num.mant as u32))
 }
 
-// The units of any axis number. It is kept apart, since most numbers of a program have the unit's decimals,
-// and takes the number's parts, so that those others need no place in memory.
+// The units of any axis number. It is kept apart, since most numbers of a program have the unit's
+// decimals, and takes the number's parts, so that those others need no place in memory.
 #[inline(never)]
 fn scaled_units(line: u64, unit: Unit, neg: bool, mant: u64, scale: u8) -> Option<i32>
     requires { FitsNum 18 (record { neg = neg; mant = mant; scale = scale }) }

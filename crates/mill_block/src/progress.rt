@@ -3,6 +3,7 @@ ghost use Rattle.std.specs.Prelude.{◌≡◌, IsTrue, OnOk, IfErr, Ok, Err};
 ghost use Rattle.mill_block.specs.Drives.{driven, drive_fault, full_drive};
 
 use crate::fault::NgcFault;
+use crate::machine::Machine;
 use crate::profile::Mode;
 use crate::rules::Rules;
 use crate::said::Said;
@@ -93,10 +94,14 @@ pub(crate) struct Progress {
     pub rules: Rules,
     /// The unit of its coordinates.
     pub unit: Unit,
+    /// The least height of the way to the first place, and the safe height of a machine.
+    pub clear: i32,
     /// The end of the last move, or the start.
     pub here: Pt3,
     /// How much of that is so, if the tool may be anywhere before the program.
     pub known: Known,
+    /// What words for a machine have settled.
+    pub machine: Machine,
     /// What a feed needs, if it is asked to have a spindle.
     pub drive: Drive,
     pub mode: Mode,

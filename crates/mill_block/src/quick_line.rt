@@ -33,8 +33,8 @@ pub(crate) struct NamedAxis {
 }
 
 impl Progress {
-    /// The move of the next line, if it is only that and spelled as most are, and the lines before it
-    /// have settled what a move needs.
+    /// The move of the next line, if it is only that and spelled as most are, and the lines before
+    /// it have settled what a move needs.
     #[inline(always)]
     pub fn quick_line(&self, line: &[u8]) -> Option<PlainMove>
         requires here { IsInUnitRange self.now.unit self.now.here }
@@ -50,7 +50,8 @@ impl Progress {
         }
     }
 
-    // The same in the program's unit. Where a call names it, its decimals and its range are constants.
+    // The same in the program's unit. Where a call names it, its decimals and its range are
+    // constants.
     #[inline(always)]
     fn quick_line_in(&self, line: &[u8], unit: Unit) -> Option<PlainMove>
         requires here { IsInUnitRange self.now.unit self.now.here }
@@ -98,7 +99,8 @@ fn ends_at(line: &[u8], place: usize) -> bool
     ends_with_feed(line, place)
 }
 
-// Whether the line ends behind the feed rate at a place. It is kept apart, since most lines name none.
+// Whether the line ends behind the feed rate at a place. It is kept apart, since most lines name
+// none.
 #[inline(never)]
 fn ends_with_feed(line: &[u8], place: usize) -> bool
     requires within { place < length line.now }
@@ -144,8 +146,8 @@ fn motion_at(line: &[u8]) -> Option<NamedMotion>
     })
 }
 
-// The word of an axis at a place, or none; no answer where its number hasn't the unit's decimals, or
-// is out of range.
+// The word of an axis at a place, or none; no answer where its number hasn't the unit's decimals,
+// or is out of range.
 #[inline(always)]
 fn axis_at(line: &[u8], place: usize, letter: u8, unit: Unit, number: u64) -> Option<NamedAxis>
     requires within { place ≤ length line.now }

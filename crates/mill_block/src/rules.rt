@@ -1,7 +1,32 @@
-//! What a reader asks of a program beside what its words mean.
+//! What a reader asks of a program beside what its words mean, and which words it takes.
 
-/// What a reader asks of a program beside what its words mean. A line that doesn't keep to it is
-/// refused.
+/// Which words a reader takes.
+#[derive(Clone, Copy)]
+pub enum Words {
+    /// Those of a short table, which each control reads alike.
+    Strict,
+    /// Those of programs for machines, as this control reads them.
+    Machine(Control),
+}
+
+/// What is known of the machine's control.
+#[derive(Clone, Copy)]
+pub struct Control {
+    /// Whether numbers finer than the grid are rounded to the nearest unit.
+    pub rounds: bool,
+    /// The greatest tolerance of the path that a program may ask for, in units.
+    pub path_tolerance: i32,
+    /// The least distance over the depth before at which a peck's way down ends, in units: 0 to
+    /// 10,000.
+    pub peck_clearance: u16,
+    /// Whether all tool lengths are one: `G43` and `G49` change nothing.
+    pub one_length: bool,
+    /// Whether a change of the tool leaves the tip at or over the safe height.
+    pub change_raises: bool,
+}
+
+/// What a reader asks of a program beside what its words mean, and which words it takes. A line
+/// that doesn't keep to it is refused.
 #[derive(Clone, Copy)]
 pub struct Rules {
     /// The tool may stand anywhere before the program. So the first line with an axis word has to
@@ -13,6 +38,8 @@ pub struct Rules {
     /// A feed has to come with what it needs: M3 or M4 in force, the last S over 0, and the last F
     /// over 0. M5 and M6 stop the spindle.
     pub needs_spindle: bool,
+    /// Which words the program may have. With a machine's the way to its first place is theirs.
+    pub words: Words,
 }
 
 impl Rules {
@@ -20,5 +47,6 @@ impl Rules {
     pub const NONE: Rules = Rules {
         from_anywhere: false,
         needs_spindle: false,
+        words: Words::Strict,
     };
 }

@@ -224,13 +224,15 @@ fn take_group(groups: &mut Groups, line: u64, group: Group) -> Result<(), NgcFau
     Ok(())
 }
 
-fn may_repeat(group: Group) -> bool
+/// Whether words of a group may stand together.
+pub(crate) fn may_repeat(group: Group) -> bool
     ensures { result ≡ may_repeat_group group }
 {
     group.letter == b'M' && group.number == 8
 }
 
-fn repeated(line: u64, group: Group) -> NgcFault
+/// The fault of a second word of a group.
+pub(crate) fn repeated(line: u64, group: Group) -> NgcFault
     ensures { result ≡ repeated_group line group }
 {
     if group.letter == b'G' || group.letter == b'M' {

@@ -3,7 +3,8 @@ use Rattle.std.proofs.Common.{◌≡◌, ap, ◌∙◌}
 use Rattle.std.specs.Prelude.{ℕ, List, map}
 use Rattle.mill_job.specs.Columns.{home}
 use Rattle.mill_block.specs.declared.rules.Rules.{Rules}
-use Rattle.mill_load.proofs.Asked.{asks_start}
+use Rattle.mill_load.specs.Programs.{dialect_of}
+use Rattle.mill_load.proofs.Asked.{asks_start, may_have}
 use Rattle.mill_ngc.specs.Programs.{program_of}
 use Rattle.mill_ngc.specs.Writing.{as_written}
 use Rattle.mill_plan.specs.Plans.{answer_of}
@@ -22,7 +23,8 @@ module _ (job_text part_text : List ℕ) (made : Planned) where
     setup_is = p.setup_is;
     moves_are = record {
       read = map as_written p.is.moves;
-      reads = ap (λ (asked : Rules). program_of (home p.job) p.job.unit asked made.program.items) (asks_start p.job p.still) ∙ p.is.reads;
+      reads = ap (λ (asked : Rules). program_of (home p.job) p.job.unit asked made.program.items) (asks_start p.job p.still)
+          ∙ p.is.reads (dialect_of p.job.words p.job) (may_have p.job p.job_ok);
       made = p.is.made;
     };
     is = p.is.accepted;

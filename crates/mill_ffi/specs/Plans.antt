@@ -2,6 +2,7 @@
 use Rattle.std.specs.Prelude.{◌≡◌, ◌≢◌, ◌⊎◌, ℕ, ℤ, pos, true, false, List, length, Ok}
 use Rattle.mill_base.specs.declared.points.Tri.{Tri}
 use Rattle.mill_job.specs.Documents.{IsJobOf}
+use Rattle.mill_job.specs.Jobs.{IsJob}
 use Rattle.mill_job.specs.declared.fields.JobFields.{JobFields}
 use Rattle.mill_plan.specs.Plans.{PlanAnswer, IsPlanAnswer, IsPlanFault, done}
 use Rattle.mill_plan.specs.declared.fault.PlanFault.{PlanFault}
@@ -49,6 +50,7 @@ told_of_setup said = record unplanned { line = said.line; height = said.height }
 pub record IsPlannedFor (job_text part_text : List ℕ) (answer : PlanAnswer) : Type 0 where
   pub job : JobFields
   pub part : List Tri
+  pub job_ok : IsJob job
   pub setup_is : ReadsSetup job_text part_text job part
   pub still : job.spindle ≡ false
   pub is : IsPlanAnswer job part answer

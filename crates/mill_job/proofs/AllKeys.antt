@@ -103,9 +103,11 @@ is_job unit cutter space measure paths extras c s m p e related = record {
   slack_ok = e.slack_ok;
   overcut_ok = e.overcut_ok;
   graze_ok = e.graze_ok;
+  peck_clearance_ok = e.peck_clearance_ok;
   keep_out_ok = e.keep_out_ok;
   room = related.of_room.room;
   holder_room = related.of_room.holder_room;
+  away = related.of_room.away;
 }
 
 -- the numbers with which the relations are reckoned are in range

@@ -41,7 +41,9 @@ is_job_with job cutter ok fits = record {
   slack_ok = ok.slack_ok;
   overcut_ok = ok.overcut_ok;
   graze_ok = ok.graze_ok;
+  peck_clearance_ok = ok.peck_clearance_ok;
   keep_out_ok = ok.keep_out_ok;
   room = room_with job cutter cutter fits.room;
   holder_room = holder_room_with job cutter ok.holder_room;
+  away = ok.away;
 }

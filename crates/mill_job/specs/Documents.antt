@@ -14,7 +14,7 @@ use Rattle.mill_decimal.specs.declared.snap.Snap.TheVariants.{Nearest, Exact}
 use Rattle.mill_job.specs.Columns.{row_count, column_count}
 use Rattle.mill_job.specs.Cutters.{cutter_faults, cutter_of, shape_fault, slope_fault}
 use Rattle.mill_job.specs.Fixtures.{fixtures_at, fixtures_fault, is_under}
-use Rattle.mill_job.specs.Habits.{flag_at, flag_fault, rapids_of, rapids_texts, start_of, start_texts}
+use Rattle.mill_job.specs.Habits.{flag_at, flag_fault, lengths_of, lengths_texts, rapids_of, rapids_texts, start_of, start_texts, starts_at_home, words_of, words_texts}
 use Rattle.mill_job.specs.Holders.{holder_fault, holder_of, is_narrow}
 use Rattle.mill_job.specs.Slack.{graze_of, is_holder_close, is_low, is_shallow, is_tight}
 use Rattle.mill_job.specs.Keys.{name_of, every_key, unknown_but}
@@ -72,6 +72,9 @@ key_faults_in unit ms =
     ∷ text_fault_if_there key.Rapids rapids_texts ms
     ∷ text_fault_if_there key.Start start_texts ms
     ∷ flag_fault key.Spindle ms
+    ∷ text_fault_if_there key.Words words_texts ms
+    ∷ number_fault_if_there key.PeckClearance (pos 0) MAX_DISTANCE ms
+    ∷ text_fault_if_there key.Lengths lengths_texts ms
     ∷ []
 
 -- what is wrong with each key, in the format's order: the unit comes first, since the ranges of others are by it
@@ -125,6 +128,9 @@ job_with unit ms = record {
   rapids = rapids_of ms;
   start = start_of ms;
   spindle = flag_at key.Spindle ms;
+  words = words_of ms;
+  peck_clearance = number_given key.PeckClearance ms;
+  lengths = lengths_of ms;
 }
 
 -- the same in the document's unit
@@ -166,6 +172,7 @@ relation_faults job =
     ++ fault_if (is_holder_close job.slack job.holder) (Relation key.Slack key.Stickout)
     ∷ fault_if (is_low job job.cutter) (Relation key.Slack key.Clear)
     ∷ fault_if (not (are_under job job.cutter)) (Relation key.KeepOut key.Clear)
+    ∷ fault_if (starts_at_home job) (Relation key.Words key.Start)
     ∷ []
 
 -- what is wrong between another cutter and a job's numbers, in order

@@ -1,5 +1,5 @@
 -- What a document says of a machine's habits, and what is wrong with it.
-use Rattle.std.specs.Prelude.{ℕ, codes, bytes_eq, Bool, true, false, if◌then◌else◌, List, [], ◌∷◌, map, Option, Some, None, option_and_then, unwrap_or}
+use Rattle.std.specs.Prelude.{ℕ, codes, bytes_eq, Bool, true, false, if◌then◌else◌, List, [], ◌∷◌, map, ℤ, pos, not, ◌&&◌, Option, Some, None, option_and_then, unwrap_or}
 use Rattle.toml.specs.Data.{Members, get_member, as_bool, as_str}
 use Rattle.mill_base.specs.Motion.{bent, bent_kind, changes_two}
 use Rattle.mill_base.specs.declared.motion.Kind.{Kind}
@@ -11,6 +11,13 @@ use Rattle.mill_job.specs.declared.habits.Rapids.{Rapids}
 use Rattle.mill_job.specs.declared.habits.Rapids.TheVariants.{Straight, Axes}
 use Rattle.mill_job.specs.declared.habits.Start.{Start}
 use Rattle.mill_job.specs.declared.habits.Start.TheVariants as start
+use Rattle.mill_base.specs.declared.unit.Unit.{Unit}
+use Rattle.mill_base.specs.declared.unit.Unit.TheVariants.{Hundredth, Thousandth}
+use Rattle.mill_job.specs.declared.fields.JobFields.{JobFields}
+use Rattle.mill_job.specs.declared.habits.ToolLengths.{ToolLengths}
+use Rattle.mill_job.specs.declared.habits.ToolLengths.TheVariants.{Table, One}
+use Rattle.mill_job.specs.declared.habits.Words.{Words}
+use Rattle.mill_job.specs.declared.habits.Words.TheVariants.{Strict, Machine}
 use Rattle.mill_job.specs.declared.key.Key.{Key}
 use Rattle.mill_job.specs.declared.key.Key.TheVariants as key
 
@@ -59,6 +66,49 @@ abbrev pub is_elsewhere : Start → Bool
 is_elsewhere start.Home = false
 is_elsewhere start.Anywhere = true
 is_elsewhere start.Change = true
+
+-- the texts of the words that programs have
+abbrev pub words_texts : List (List ℕ)
+words_texts = codes "strict" ∷ codes "machine" ∷ []
+
+-- the text `machine` means those that machines' programs have, and any other, or none, those of the short table
+abbrev pub words_from : Option (List ℕ) → Words
+words_from None = Strict
+words_from (Some text) = if bytes_eq text (codes "machine") then Machine else Strict
+
+-- which words a document's programs have
+unfoldable pub words_of : Members → Words
+words_of ms = words_from (option_and_then as_str (get_member (name_of key.Words) ms))
+
+-- programs have a machine's words
+abbrev pub are_for_machine : Words → Bool
+are_for_machine Strict = false
+are_for_machine Machine = true
+
+-- a machine's programs don't start over home
+abbrev pub starts_at_home : JobFields → Bool
+starts_at_home job = are_for_machine job.words && not (is_elsewhere job.start)
+
+-- how far over the depth before a peck's way down ends, a quarter of a millimetre where the document doesn't say
+abbrev pub quarter_of : Unit → ℤ
+quarter_of Hundredth = pos 25
+quarter_of Thousandth = pos 250
+
+abbrev pub clearance_of : JobFields → ℤ
+clearance_of job = unwrap_or job.peck_clearance (quarter_of job.unit)
+
+-- the texts of what a machine does with tool lengths
+abbrev pub lengths_texts : List (List ℕ)
+lengths_texts = codes "table" ∷ codes "one" ∷ []
+
+-- the text `one` means that all are the same, and any other, or none, that a table has them
+abbrev pub lengths_from : Option (List ℕ) → ToolLengths
+lengths_from None = Table
+lengths_from (Some text) = if bytes_eq text (codes "one") then One else Table
+
+-- what a document's machine does with tool lengths
+unfoldable pub lengths_of : Members → ToolLengths
+lengths_of ms = lengths_from (option_and_then as_str (get_member (name_of key.Lengths) ms))
 
 -- either truth value is in range
 abbrev pub is_flag : Bool → Bool

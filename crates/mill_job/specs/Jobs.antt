@@ -1,5 +1,5 @@
 -- The ranges and relations that a job keeps, and the tool with which it cuts.
-use Rattle.std.specs.Prelude.{◌*◌, ◌≤◌, List, length, All, AllPairs, ℤ, pos, ◌+ℤ◌, ◌-ℤ◌, ◌*ℤ◌, ◌<ℤ◌, ◌≤ℤ◌, IfSome}
+use Rattle.std.specs.Prelude.{◌≡◌, false, ◌*◌, ◌≤◌, List, length, All, AllPairs, ℤ, pos, ◌+ℤ◌, ◌-ℤ◌, ◌*ℤ◌, ◌<ℤ◌, ◌≤ℤ◌, IfSome}
 use Rattle.mill_base.specs.Numbers.{Within}
 use Rattle.mill_base.specs.declared.limits.TheConstants.{MAX_COLUMNS, MAX_RADIUS}
 use Rattle.mill_base.specs.Sizes.{IsCutter, radius_of}
@@ -9,6 +9,7 @@ use Rattle.mill_base.specs.declared.cutter.Cutter.{Cutter}
 use Rattle.mill_base.specs.declared.tool.Tool.{Tool}
 use Rattle.mill_job.specs.Columns.{row_count, column_count}
 use Rattle.mill_job.specs.Fixtures.{AreFixtures, IsUnder}
+use Rattle.mill_job.specs.Habits.{starts_at_home}
 use Rattle.mill_job.specs.Slack.{graze_of}
 use Rattle.mill_job.specs.Solids.{holder_solid_of, outer_of, part_solid_of}
 use Rattle.mill_job.specs.Tables.{IsPlace}
@@ -96,9 +97,11 @@ pub record IsJob (job : JobFields) : Type 0 where
   pub slack_ok : IsFrom (pos 0) MAX_SLACK job.slack
   pub overcut_ok : IsFrom (pos 0) MAX_OVERCUT job.overcut
   pub graze_ok : IfSome job.graze (IsFrom (pos 0) MAX_GRAZE)
+  pub peck_clearance_ok : IfSome job.peck_clearance (IsFrom (pos 0) MAX_DISTANCE)
   pub keep_out_ok : AreFixtures job.unit job.keep_out
   pub room : HasRoom job job.cutter
   pub holder_room : HolderHasRoom job
+  pub away : starts_at_home job ≡ false
 
 -- the job's relations hold with this cutter in the place of its own
 pub record FitsJob (job : JobFields) (cutter : Cutter) : Type 0 where

@@ -1,5 +1,5 @@
 use crate::fixtures::Fixtures;
-use crate::habits::{Rapids, Start};
+use crate::habits::{Rapids, Start, ToolLengths, Words};
 use crate::levels::Levels;
 use mill_base::{Box2, Cutter, Solid, Unit};
 use mill_decimal::Snap;
@@ -78,4 +78,11 @@ pub struct JobFields {
     pub start: Start,
     /// Whether a program has to start the spindle, and to say how fast it feeds, before it feeds.
     pub spindle: bool,
+    /// Which words programs have.
+    pub words: Words,
+    /// How far over the depth before a peck's way back down ends at least, from 0 to 10,000; with
+    /// `None` a quarter of a millimetre.
+    pub peck_clearance: Option<i32>,
+    /// What the machine does with the lengths of its tools.
+    pub lengths: ToolLengths,
 }

@@ -10,14 +10,15 @@ use crate::arrays::{area, home, levels};
 use crate::fault::JobFault;
 use crate::fields::Place;
 use crate::fixtures::Fixtures;
-use crate::habits::{Rapids, Start};
+use crate::habits::{Rapids, Start, ToolLengths, Words};
 use crate::holder::holder;
 use crate::keep_out::keep_out;
 use crate::key::Key;
 use crate::levels::Levels;
 use crate::limits::{MAX_DISTANCE, MAX_GRAZE, MAX_OVERCUT, MAX_SLACK};
 use crate::values::{
-    coordinate, depth, flag, number, number_if_there, number_or, rapids, snap, start,
+    coordinate, depth, flag, lengths, number, number_if_there, number_or, rapids, snap, start,
+    words,
 };
 use mill_base::{Box2, Solid, Unit};
 use mill_decimal::Snap;
@@ -67,6 +68,9 @@ pub struct Extras {
     pub rapids: Rapids,
     pub start: Start,
     pub spindle: bool,
+    pub words: Words,
+    pub peck_clearance: Option<i32>,
+    pub lengths: ToolLengths,
 }
 
 /// Where the document's stock stands, and from where programs start.
@@ -135,5 +139,8 @@ pub fn extras_in(table: &Table, unit: Unit) -> Result<Extras, JobFault>
         rapids: rapids(table)?,
         start: start(table)?,
         spindle: flag(table, Key::Spindle)?,
+        words: words(table)?,
+        peck_clearance: number_if_there(table, Key::PeckClearance, 0, MAX_DISTANCE)?,
+        lengths: lengths(table)?,
     })
 }

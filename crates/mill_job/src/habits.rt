@@ -1,5 +1,5 @@
 ghost use Rattle.std.specs.Prelude.{◌≡◌};
-ghost use Rattle.mill_job.specs.Habits.{is_elsewhere, made_by};
+ghost use Rattle.mill_job.specs.Habits.{are_for_machine, is_elsewhere, made_by};
 
 use mill_base::Move;
 
@@ -46,4 +46,34 @@ impl Start {
             Start::Anywhere | Start::Change => true,
         }
     }
+}
+
+/// Which words programs have.
+#[derive(Clone, Copy, Debug, PartialEq, Eq)]
+pub enum Words {
+    /// Those of a short table, which each control reads alike.
+    Strict,
+    /// Those that machines' programs have.
+    Machine,
+}
+
+impl Words {
+    /// Whether they are a machine's.
+    pub fn are_for_machine(self) -> bool
+        ensures { result ≡ are_for_machine self }
+    {
+        match self {
+            Words::Strict => false,
+            Words::Machine => true,
+        }
+    }
+}
+
+/// What a machine does with the lengths of its tools.
+#[derive(Clone, Copy, Debug, PartialEq, Eq)]
+pub enum ToolLengths {
+    /// It has a table of them, and `G43` takes one from it.
+    Table,
+    /// Each tool is touched off by itself: `G43` and `G49` change nothing.
+    One,
 }

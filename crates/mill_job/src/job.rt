@@ -8,7 +8,7 @@ use crate::fixtures::Fixture;
 use crate::positions::{count, position};
 use crate::slack::graze;
 use crate::solids::{Solids, solids_by};
-use mill_base::{Pt3, Solid, Tool};
+use mill_base::{Pt3, Solid, Tool, Unit};
 
 /// A job: its numbers, each in its range, with the relations between them; and the solids of its
 /// tool.
@@ -21,17 +21,18 @@ pub struct Job {
 }
 
 impl Job {
-    ghost use Rattle.std.specs.Prelude.{◌≡◌, ◌+◌, ◌<◌, ◌≤◌, ◌*◌, All, length};
+    ghost use Rattle.std.specs.Prelude.{◌≡◌, ◌+◌, ◌<◌, ◌≤◌, ◌≤ℤ◌, ◌*◌, pos, All, length};
     ghost use Rattle.mill_base.specs.Numbers.{Within};
     ghost use Rattle.mill_base.specs.declared.limits.TheConstants.{MAX_COLUMNS};
     ghost use Rattle.mill_base.specs.Ranges.{IsInUnitRange};
     ghost use Rattle.mill_base.specs.Units.{greatest_of};
     ghost use Rattle.mill_job.specs.Columns.{row_count, column_count, column_x as x_of_column, column_y, home as home_of};
     ghost use Rattle.mill_job.specs.Fixtures.{IsFixture, IsUnder};
+    ghost use Rattle.mill_job.specs.Habits.{clearance_of};
     ghost use Rattle.mill_job.specs.Jobs.{part_tool_of, tool_of};
     ghost use Rattle.mill_job.specs.Solids.{holder_solid_of, inner_of, outer_of, part_solid_of, stock_solid_of};
     ghost use Rattle.mill_job.specs.Slack.{graze_of};
-    ghost use Rattle.mill_job.specs.declared.limits.TheConstants.{MAX_FIXTURES};
+    ghost use Rattle.mill_job.specs.declared.limits.TheConstants.{MAX_DISTANCE, MAX_FIXTURES};
     ghost use Rattle.mill_margin.specs.Margins.{IsMargin, offset_of};
 
     /// The job of these numbers, with the solids of its tool.
@@ -176,6 +177,22 @@ impl Job {
             self.fields.pitch,
             j,
         )
+    }
+
+    /// How far over the depth before a peck's way back down ends at least, in units: a quarter of a
+    /// millimetre where the document doesn't say.
+    pub fn peck_clearance(&self) -> i32
+        ensures value { result ≡ clearance_of self.now.fields }
+        ensures least { pos 0 ≤ℤ result }
+        ensures most { result ≤ℤ MAX_DISTANCE }
+    {
+        match self.fields.peck_clearance {
+            Some(clearance) => clearance,
+            None => match self.fields.unit {
+                Unit::Hundredth => 25,
+                Unit::Thousandth => 250,
+            },
+        }
     }
 
     /// Where a program starts: over home, at the clear height.

@@ -38,6 +38,9 @@ pub enum Key {
     Rapids,
     Start,
     Spindle,
+    Words,
+    PeckClearance,
+    Lengths,
     /// The key of a list.
     Steps,
     /// A key of each of its steps, beside those of the cutter.
@@ -48,7 +51,7 @@ pub enum Key {
 }
 
 /// The keys of a job's document, in the format's order.
-pub const JOB_KEYS: [Key; 32] = [
+pub const JOB_KEYS: [Key; 35] = [
     Key::Unit,
     Key::Cutter,
     Key::Radius,
@@ -81,6 +84,9 @@ pub const JOB_KEYS: [Key; 32] = [
     Key::Rapids,
     Key::Start,
     Key::Spindle,
+    Key::Words,
+    Key::PeckClearance,
+    Key::Lengths,
 ];
 
 impl Key {
@@ -121,6 +127,9 @@ impl Key {
             Key::Rapids => "rapids",
             Key::Start => "start",
             Key::Spindle => "spindle",
+            Key::Words => "words",
+            Key::PeckClearance => "peck_clearance",
+            Key::Lengths => "lengths",
             Key::Steps => "steps",
             Key::Program => "program",
             Key::Feed => "feed",

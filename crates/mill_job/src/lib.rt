@@ -41,7 +41,7 @@ pub use document::{first_unknown, read_document};
 pub use fault::JobFault;
 pub use fields::{JobFields, Place};
 pub use fixtures::{Fixture, Fixtures};
-pub use habits::{Rapids, Start};
+pub use habits::{Rapids, Start, ToolLengths, Words};
 pub use job::Job;
 pub use key::Key;
 pub use laws::unit_left_out;

@@ -66,6 +66,9 @@ fn assembled(
         rapids: extras.rapids,
         start: extras.start,
         spindle: extras.spindle,
+        words: extras.words,
+        peck_clearance: extras.peck_clearance,
+        lengths: extras.lengths,
     }
 }
 
@@ -109,13 +112,13 @@ fn read_fields(alloc: Global, text: &[u8]) -> Result<JobFields, JobFault>
 
 /// Reads a job: a TOML 1.0 document with each key of [`Key`] and no other; `unit`, `snap`, `lift`,
 /// `raster`, `rough_raster`, `layer`, `rough_stock`, `levels`, `max_cut`, `path_tol`, `slack`,
-/// `overcut`, `graze`, `keep_out`, `rapids`, `start` and `spindle` may be left out, `rise` and
-/// `run` where the cutter is no cone, and `holder_radius` and `stickout` both or neither.
+/// `overcut`, `graze`, `keep_out`, `rapids`, `start`, `spindle`, `words`, `peck_clearance` and
+/// `lengths` may be left out, `rise` and `run` where the cutter is no cone, and `holder_radius` and `stickout` both or neither.
 ///
 /// `unit` is a text, `hundredth` for 0.01 mm or `thousandth` for 0.001 mm; numbers are whole, in
 /// that unit. `cutter` is a text, `flat`, `ball` or `cone`. `radius`, `pitch`, `sample`, `raster`,
 /// `rough_raster` and `holder_radius` are from 1 to 10,000, `rise` and `run` from 1 to 100,
-/// `allowance`, `band`, `lift`, `rough_stock` and `path_tol` from 0 to 10,000, `slack` from 0 to
+/// `allowance`, `band`, `lift`, `rough_stock`, `path_tol` and `peck_clearance` from 0 to 10,000, `slack` from 0 to
 /// 200, `overcut` and `graze` from 0 to 500; `layer` and `max_cut` from 0, and `stickout` from 1,
 /// to the unit's greatest coordinate, which is 131,071 or 524,287. `floor`, `top`, `clear` and the
 /// members of `area`, `home` and `levels` are coordinates, of a magnitude of at most that. `area`
@@ -123,13 +126,14 @@ fn read_fields(alloc: Global, text: &[u8]) -> Result<JobFields, JobFault>
 /// 64 members, each less than the one before it. `snap` is a text, `nearest` or `exact`. `keep_out`
 /// has at most 64 members, each an array of five coordinates x0, y0, x1, y1, z, with x0 at most x1
 /// and y0 at most y1. `rapids` is a text, `straight` or `axes`, and `start` one, `home`, `anywhere`
-/// or `change`. `spindle` is a truth value.
+/// or `change`. `spindle` is a truth value. `words` is a text, `strict` or `machine`, and `lengths` one,
+/// `table` or `one`.
 ///
 /// In a document without them `unit` is `hundredth`, `lift`, `layer`, `rough_stock`, `max_cut`,
 /// `slack` and `overcut` are 0, `raster` is the pitch, `rough_raster` the raster, `levels` and
 /// `keep_out` have no member, `snap` is `nearest`, there is no holder and no tolerance of paths,
-/// `graze` is as [`Job::graze`] says, `rapids` is `straight`, `start` is `home`, and `spindle` is
-/// false.
+/// `graze` is as [`Job::graze`] says, `rapids` is `straight`, `start` is `home`, `spindle` is false,
+/// `words` is `strict`, `peck_clearance` a quarter of a millimetre, and `lengths` is `table`.
 ///
 /// The relations are: only a cone has a rise, only a cone has a run, rise is at most 16 times run,
 /// floor at most top, top at most clear, there are at most 4,000,000 columns, band is at most

@@ -4,6 +4,7 @@ ghost use Rattle.mill_base.specs.Numbers.{Within};
 ghost use Rattle.mill_base.specs.Units.{greatest_of};
 ghost use Rattle.mill_job.specs.Columns.{row_count, column_count};
 ghost use Rattle.mill_job.specs.Documents.{has_many_layers as many_layers_in, is_level, relation_faults};
+ghost use Rattle.mill_job.specs.Habits.{starts_at_home as starts_at_home_in};
 ghost use Rattle.mill_job.specs.Jobs.{HasFewLayers, IsFrom, IsLevel};
 ghost use Rattle.mill_job.specs.Tables.{first};
 ghost use Rattle.mill_job.specs.inner.Relations.{IsCut, IsRelated, IsSlackened, IsStock};
@@ -91,8 +92,15 @@ fn cut_fault(job: &JobFields) -> Option<JobFault>
     None
 }
 
+/// Whether programs have a machine's words, and yet start over home.
+fn starts_at_home(job: &JobFields) -> bool
+    ensures { result ≡ starts_at_home_in job.now }
+{
+    job.words.are_for_machine() && !job.start.is_elsewhere()
+}
+
 /// The first relation that fails between a job's slack, its overcut or its graze and its cutter,
-/// its holder, its heights or its fixtures.
+/// its holder, its heights or its fixtures, or between its words and its start.
 fn room_fault(job: &JobFields) -> Option<JobFault>
     requires { IsRanged job.now }
     ensures value { result ≡ first (room_faults job.now) }
@@ -109,6 +117,9 @@ fn room_fault(job: &JobFields) -> Option<JobFault>
     }
     if !clears_fixtures(job, &job.cutter) {
         return Some(JobFault::Relation(Key::KeepOut, Key::Clear));
+    }
+    if starts_at_home(job) {
+        return Some(JobFault::Relation(Key::Words, Key::Start));
     }
     None
 }

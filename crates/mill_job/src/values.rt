@@ -6,12 +6,13 @@ ghost use Rattle.toml.specs.View.{table_view, view};
 ghost use Rattle.mill_job.specs.Documents.{snap_of, unit_of, unit_texts};
 ghost use Rattle.mill_job.specs.Habits.{flag_at, flag_fault, rapids_of, rapids_texts};
 ghost use Rattle.mill_job.specs.Habits.{start_of, start_texts};
+ghost use Rattle.mill_job.specs.Habits.{lengths_of, lengths_texts, words_of, words_texts};
 ghost use Rattle.mill_job.specs.Jobs.{IsFrom};
 ghost use Rattle.mill_job.specs.Keys.{name_of};
 ghost use Rattle.mill_job.specs.Tables.{coordinate_fault, is_coordinate, is_from, kind_fault, number_at, number_fault, number_fault_if_there, number_given, number_or as number_or_other, text_fault_if_there};
 
 use crate::fault::JobFault;
-use crate::habits::{Rapids, Start};
+use crate::habits::{Rapids, Start, ToolLengths, Words};
 use crate::key::Key;
 use mill_base::Unit;
 use mill_decimal::Snap;
@@ -201,6 +202,46 @@ pub fn start(table: &Table) -> Result<Start, JobFault>
         Some("anywhere") => Ok(Start::Anywhere),
         Some("change") => Ok(Start::Change),
         Some(_) => Err(JobFault::Range(Key::Start)),
+    }
+}
+
+/// Which words the document's programs have.
+#[tactic(auto, unfolding(crate::specs::Tables::text_fault_if_there, crate::specs::Habits::words_of))]
+pub fn words(table: &Table) -> Result<Words, JobFault>
+    ensures ok { IfOk result (λ words.
+        (text_fault_if_there Key.Words words_texts (table_view table.now) ≡ None)
+        × (words ≡ words_of (table_view table.now))) }
+    ensures err { IfErr result (λ fault.
+        text_fault_if_there Key.Words words_texts (table_view table.now) ≡ Some fault) }
+{
+    let Some(value) = find(table, Key::Words) else {
+        return Ok(Words::Strict);
+    };
+    match value.as_str() {
+        None => Err(JobFault::WrongKind(Key::Words)),
+        Some("strict") => Ok(Words::Strict),
+        Some("machine") => Ok(Words::Machine),
+        Some(_) => Err(JobFault::Range(Key::Words)),
+    }
+}
+
+/// What the document's machine does with the lengths of its tools.
+#[tactic(auto, unfolding(crate::specs::Tables::text_fault_if_there, crate::specs::Habits::lengths_of))]
+pub fn lengths(table: &Table) -> Result<ToolLengths, JobFault>
+    ensures ok { IfOk result (λ lengths.
+        (text_fault_if_there Key.Lengths lengths_texts (table_view table.now) ≡ None)
+        × (lengths ≡ lengths_of (table_view table.now))) }
+    ensures err { IfErr result (λ fault.
+        text_fault_if_there Key.Lengths lengths_texts (table_view table.now) ≡ Some fault) }
+{
+    let Some(value) = find(table, Key::Lengths) else {
+        return Ok(ToolLengths::Table);
+    };
+    match value.as_str() {
+        None => Err(JobFault::WrongKind(Key::Lengths)),
+        Some("table") => Ok(ToolLengths::Table),
+        Some("one") => Ok(ToolLengths::One),
+        Some(_) => Err(JobFault::Range(Key::Lengths)),
     }
 }
 

@@ -1,6 +1,6 @@
 -- A program's text, taken piece by piece.
 use Rattle.std.proofs.Common.{◌≡◌, ℕ, ◌+◌, ◌≤◌, ◌<◌, List, [], ◌++◌, length, take, Option, Some, None, Ok, Err, refl, sym, ap, ◌∙◌, arith, subst, length-append}
-use Rattle.std.specs.Prelude.{IfSome}
+use Rattle.std.specs.Prelude.{IfSome, Result, Bool, true, false, ◌≢◌}
 use Rattle.mill_base.specs.declared.limits.TheConstants.{MAX_FILE_BYTES}
 use Rattle.mill_base.specs.declared.points.Pt3.{Pt3}
 use Rattle.mill_base.specs.declared.motion.Move.{Move}
@@ -12,6 +12,7 @@ use Rattle.mill_io.proofs.Read.{length_more, read_more, read_all}
 use Rattle.mill_ngc.specs.Programs.{program_of}
 use Rattle.mill_ngc.specs.Pieces.{Reading, reading_at, after_lines, fed, at_end, last_answer, lines_read, AreSound, MovesSoFar}
 use Rattle.mill_block.specs.declared.fault.NgcFault.{NgcFault}
+use Rattle.mill_block.specs.declared.fault.NgcFault.TheVariants.{WantOfMemory}
 use Rattle.mill_block.specs.declared.rules.Rules.{Rules}
 use Rattle.mill_ngc.proofs.JoinLemmas.{pieces_join}
 use Rattle.mill_ngc.proofs.WholeText.{last_moves, last_fault}
@@ -25,7 +26,7 @@ use Rattle.mill_load.specs.declared.load.Unfit.TheVariants.{TooLong, JobRefused,
 use Rattle.mill_load.specs.Setup.{IsTooLong}
 use Rattle.mill_load.specs.Programs.{IsProgramText, IsRefusedProgram, SaysMoves, rules_of}
 use Rattle.mill_load.proofs.Bending.{run_sound}
-use Rattle.mill_load.specs.inner.Steps.{HasTaken, TakesFile, TakesFront, LoadsNone}
+use Rattle.mill_load.specs.inner.Steps.{HasTaken, TakesFile, TakesFront, LoadsNone, is_memory_fault}
 use Rattle.mill_load.specs.Loads.{LoadsProgram, AreMoves}
 
 no_front : (told : Option (List ℕ)) → IfSome told (λ bytes. [] ≡ take 0 bytes)
@@ -141,3 +142,16 @@ moves_ok job start unit asked read made from of_job asks sound run =
 pub text_fault : (job : JobFields) (start : Pt3) (unit : LengthUnit) (asked : Rules) (text : List ℕ) (reader : Reading) (moves : List Move) (fault : NgcFault) → start ≡ home job → unit ≡ job.unit → asked ≡ rules_of job → HasTaken start unit asked reader moves text
     → Err fault ≡ last_answer (at_end (reader, moves)).0 → program_of (home job) job.unit (rules_of job) text ≡ Err fault
 text_fault job start unit asked text reader moves fault from of_job asks taken e = rw (← asks, ← from, ← of_job) (last_fault start unit asked text (reader, moves) fault taken.all e)
+
+-- a fault that is one of a program's isn't want of memory
+err_is : {A : Type 0} (a b : NgcFault) → (let r : Result A NgcFault = Err a in r) ≡ Err b → a ≡ b
+err_is a b e = cc
+
+pub is_other : {A : Type 0} (r : Result A NgcFault) (fault : NgcFault) → r ≡ Err fault → is_memory_fault fault ≡ false → r ≢ Err WantOfMemory
+is_other r fault is other = λ memory.
+    let same : fault ≡ WantOfMemory = err_is fault WantOfMemory (sym is ∙ memory) in
+    not-both (is_memory_fault fault) other (ap is_memory_fault same)
+  where
+    not-both : (b : Bool) → b ≡ false → b ≡ true → ⊥
+    not-both true p q = absurd cc
+    not-both false p q = absurd cc

@@ -12,6 +12,7 @@ ghost use Rattle.mill_block.specs.declared.fault.NgcFault.TheVariants.{WantOfMem
 ghost use Rattle.mill_block.specs.declared.rules.Rules.{Rules as AskedRules};
 ghost use Rattle.mill_load.specs.Loads.{LoadsProgram, NamesFault, OnlyLoads, AreMoves, CountsFault};
 ghost use Rattle.mill_load.specs.inner.Steps.{HasTaken, TakesFile, LoadsNone, IsFirst};
+ghost use Rattle.mill_load.specs.inner.Steps.{is_memory_fault};
 ghost use Rattle.mill_load.specs.Programs.{SaysMoves, rules_of};
 ghost use Rattle.mill_load.specs.Setup.{Fits};
 ghost use Rattle.mill_load.specs.declared.file.File.{File as AnyFile};
@@ -70,9 +71,16 @@ pub fn load_program<S: Shelf>(
             run_moves(job.fields.rapids, &mut moves);
             Ok(moves)
         }
-        Err(NgcFault::WantOfMemory) => Err(LoadFault::Memory),
+        Err(fault) if is_memory(fault) => Err(LoadFault::Memory),
         Err(fault) => Err(LoadFault::Unfit(Unfit::ProgramRefused(file, fault))),
     }
+}
+
+// Whether it is no fault of a program's.
+fn is_memory(fault: NgcFault) -> bool
+    ensures { result ≡ is_memory_fault fault }
+{
+    matches!(fault, NgcFault::WantOfMemory)
 }
 
 // A reader that has taken the whole text of a file, with the moves so far.

@@ -23,6 +23,7 @@ use Rattle.mill_block.specs.declared.progress.Known.TheVariants.{Nothing, Height
 use Rattle.mill_block.specs.declared.said.Said.{Said}
 use Rattle.mill_ngc.specs.Programs.{lines_of, moves_from, program_of}
 use Rattle.mill_ngc.specs.Readings.{rules_with}
+use Rattle.mill_block.specs.declared.rules.Words.TheVariants.{Strict}
 use Rattle.mill_ngc.specs.Writing.{as_written, head_moves, stay}
 use Rattle.mill_ngc.proofs.MoveLines.{IsLine, IsMoveLine, axis_of, axis_units-num, end_lines, going, known_to, motion_of, moves_from-header, moves_from-moves, not_long, units_num}
 
@@ -98,30 +99,30 @@ reaches-num unit z =
     rw parts (at_itself (z *ℤ pos (10 ^ places_of unit)))
 
 acted-up : (unit : Unit) (p : Pt3) (line : ℕ) → IsInUnitRange unit p
-    → acted (known_to (Some p) Nothing unit p Off false 0 line) (up_said unit p) ≡ Ok (known_to (Some p) Height unit p (On Rapid) true 0 line, [])
+    → acted (known_to p.z (Some p) Nothing unit p Off false 0 line) (up_said unit p) ≡ Ok (known_to p.z (Some p) Height unit p (On Rapid) true 0 line, [])
 unfolding up_said acted moved target
 acted-up unit p line fits = rw (reaches-num unit p.z, axis_units-num unit line p.z fits.z_ok) refl
 
 acted-across : (unit : Unit) (p : Pt3) (line : ℕ) → IsInUnitRange unit p
-    → acted (known_to (Some p) Height unit p (On Rapid) true 0 line) (across_said unit p) ≡ Ok (going (Some p) unit p (On Rapid) true 2 line, head_moves (Some p))
+    → acted (known_to p.z (Some p) Height unit p (On Rapid) true 0 line) (across_said unit p) ≡ Ok (going p.z (Some p) unit p (On Rapid) true 2 line, head_moves (Some p))
 unfolding across_said acted moved target
 acted-across unit p line fits = rw (axis_units-num unit line p.x fits.x_ok, axis_units-num unit line p.y fits.y_ok) refl
 
 after_line-up : (unit : Unit) (p : Pt3) (number : ℕ) (line : List ℕ) → IsInUnitRange unit p → IsLine (up_words unit p) line
-    → after_line (known_to (Some p) Nothing unit p Off false 0 number) line ≡ Ok (known_to (Some p) Height unit p (On Rapid) true 0 (number + 1), [])
+    → after_line (known_to p.z (Some p) Nothing unit p Off false 0 number) line ≡ Ok (known_to p.z (Some p) Height unit p (On Rapid) true 0 (number + 1), [])
 unfolding after_line after_words
 after_line-up unit p number line fits is_line =
     rw (not_long (length line) is_line.short, is_line.other, is_line.words_are, said_by-up unit (number + 1) p) (acted-up unit p (number + 1) fits)
 
 after_line-across : (unit : Unit) (p : Pt3) (number : ℕ) (line : List ℕ) → IsInUnitRange unit p → IsLine (across_words unit p) line
-    → after_line (known_to (Some p) Height unit p (On Rapid) true 0 number) line ≡ Ok (going (Some p) unit p (On Rapid) true 2 (number + 1), head_moves (Some p))
+    → after_line (known_to p.z (Some p) Height unit p (On Rapid) true 0 number) line ≡ Ok (going p.z (Some p) unit p (On Rapid) true 2 (number + 1), head_moves (Some p))
 unfolding after_line after_words
 after_line-across unit p number line fits is_line =
     rw (not_long (length line) is_line.short, is_line.other, is_line.words_are, said_by-across unit (number + 1) p) (acted-across unit p (number + 1) fits)
 
 -- both lines make a move of length 0 each, at the place that they lead to
 moves_from-head : (unit : Unit) (p : Pt3) (number : ℕ) (up across : List ℕ) (lines : List (List ℕ)) → IsInUnitRange unit p → IsLine (up_words unit p) up → IsLine (across_words unit p) across
-    → moves_from (known_to (Some p) Nothing unit p Off false 0 number) [] (up ∷ across ∷ lines) ≡ moves_from (going (Some p) unit p (On Rapid) true 2 (number + 1 + 1)) (head_moves (Some p)) lines
+    → moves_from (known_to p.z (Some p) Nothing unit p Off false 0 number) [] (up ∷ across ∷ lines) ≡ moves_from (going p.z (Some p) unit p (On Rapid) true 2 (number + 1 + 1)) (head_moves (Some p)) lines
 unfolding moves_from
 moves_from-head unit p number up across lines fits is_up is_across =
     rw (after_line-up unit p number up fits is_up, after_line-across unit p (number + 1) across fits is_across) refl
@@ -138,14 +139,14 @@ AreHead unit (Some p) lines = ⊥
 moves_from-begun : (unit : Unit) (line : Move → List ℕ) → ((m : Move) → MoveInUnitRange unit m → IsMoveLine unit m (line m))
     → (begin : Option Pt3) (start : Pt3) (moves : List Move) (head : List (List ℕ)) → AreHead unit begin head
     → Follow start (head_moves begin ++ moves) → MovesInUnitRange unit (head_moves begin ++ moves) → length (head_moves begin ++ moves) ≤ MAX_MOVES
-    → moves_from (known_to begin Nothing unit start Off false 0 2) [] (head ++ (map line moves ++ end_lines)) ≡ Ok (head_moves begin ++ map as_written moves)
+    → moves_from (known_to start.z begin Nothing unit start Off false 0 2) [] (head ++ (map line moves ++ end_lines)) ≡ Ok (head_moves begin ++ map as_written moves)
 moves_from-begun unit line is_line None start moves head is_head follow fits few =
-    rw is_head (moves_from-moves None unit line is_line moves start Off false 0 2 [] follow fits (omega arith))
+    rw is_head (moves_from-moves start.z None unit line is_line moves start Off false 0 2 [] follow fits (omega arith))
 moves_from-begun unit line is_line (Some p) start moves (up ∷ across ∷ []) is_head follow fits few =
     let first : IsInUnitRange unit p = (fits (stay p) (search rules)).to_ok in
     let others : MovesInUnitRange unit moves = λ n member. fits n (Contains-append_right (stay p ∷ stay p ∷ []) moves n member) in
     rw (← follow.0) (moves_from-head unit p 2 up across (map line moves ++ end_lines) first is_head.0 is_head.1
-    ∙ moves_from-moves (Some p) unit line is_line moves p (On Rapid) true 2 (2 + 1 + 1) (head_moves (Some p)) follow.1.1 others (omega arith))
+    ∙ moves_from-moves p.z (Some p) unit line is_line moves p (On Rapid) true 2 (2 + 1 + 1) (head_moves (Some p)) follow.1.1 others (omega arith))
 moves_from-begun unit line is_line (Some p) start moves [] is_head follow fits few = absurd is_head
 moves_from-begun unit line is_line (Some p) start moves (up ∷ []) is_head follow fits few = absurd is_head
 moves_from-begun unit line is_line (Some p) start moves (up ∷ across ∷ other ∷ more) is_head follow fits few = absurd is_head
@@ -159,7 +160,7 @@ head-written (Some p) moves = refl
 pub program_of-moves : (unit : Unit) (line : Move → List ℕ) → ((m : Move) → MoveInUnitRange unit m → IsMoveLine unit m (line m))
     → (begin : Option Pt3) (start : Pt3) (moves : List Move) (head : List (List ℕ)) (text : List ℕ) → AreHead unit begin head
     → Follow start (head_moves begin ++ moves) → MovesInUnitRange unit (head_moves begin ++ moves) → length (head_moves begin ++ moves) ≤ MAX_MOVES
-    → lines_of text ≡ codes "%" ∷ codes "G17 G21 G90" ∷ (head ++ (map line moves ++ end_lines)) → program_of start unit (rules_with begin) text ≡ Ok (map as_written (head_moves begin ++ moves))
+    → lines_of text ≡ codes "%" ∷ codes "G17 G21 G90" ∷ (head ++ (map line moves ++ end_lines)) → program_of start unit (rules_with begin Strict) text ≡ Ok (map as_written (head_moves begin ++ moves))
 unfolding program_of
 program_of-moves unit line is_line begin start moves head text is_head follow fits few lines =
     rw lines (moves_from-header begin unit start (head ++ (map line moves ++ end_lines)) ∙ moves_from-begun unit line is_line begin start moves head is_head follow fits few ∙ ap (λ (ms : List Move). Ok ms) (head-written begin moves))

@@ -1,6 +1,8 @@
 mod Feeds
 mod LineLemmas
 mod Ways
+mod Goings
+mod MachineWays
 pub mod Follows
 mod ProgramLemmas
 mod PieceLemmas
@@ -9,6 +11,7 @@ pub mod JoinLemmas
 pub mod WholeText
 pub mod MoveLines
 mod Heads
+mod MachineMoves
 mod TextLemmas
 mod Cutting
 mod Numerals

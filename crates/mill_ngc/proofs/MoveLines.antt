@@ -28,12 +28,14 @@ use Rattle.mill_block.specs.Profile.{entry_of}
 use Rattle.mill_block.specs.Said.{after_entry, said_from, said_by}
 use Rattle.mill_block.specs.Motion.{target, moved, acted}
 use Rattle.mill_block.specs.Lines.{is_percent, after_words, after_line, start_at}
+use Rattle.mill_block.specs.MachineSettings.{machine_begun}
 use Rattle.mill_block.specs.Drives.{no_drive}
 use Rattle.mill_block.specs.declared.progress.Known.{Known}
 use Rattle.mill_block.specs.declared.progress.Known.TheVariants.{Nothing, All}
 use Rattle.mill_ngc.specs.Writing.{as_written, written_as}
 use Rattle.mill_ngc.specs.Programs.{moves_from}
 use Rattle.mill_ngc.specs.Readings.{rules_with}
+use Rattle.mill_block.specs.declared.rules.Words.TheVariants.{Strict}
 
 -- ---- the words of a move's line
 
@@ -102,23 +104,23 @@ said_by-move unit line false Dogleg from to = refl
 -- ---- what they do
 
 -- a program behind its header, with a way to its first place or without, where this is known of the tool's place
-abbrev pub known_to : Option Pt3 → Known → Unit → Pt3 → Mode → Bool → ℕ → ℕ → Progress
-known_to begin known unit here mode positioned moves line =
-    record { rules = rules_with begin; unit = unit; here = here; known = known; drive = no_drive; mode = mode; millimetres = true; absolute = true; positioned = positioned; frame = Framed; ended = false; moves = moves; line = line }
+abbrev pub known_to : ℤ → Option Pt3 → Known → Unit → Pt3 → Mode → Bool → ℕ → ℕ → Progress
+known_to clear begin known unit here mode positioned moves line =
+    record { rules = rules_with begin Strict; unit = unit; clear = clear; here = here; known = known; machine = machine_begun; drive = no_drive; mode = mode; millimetres = true; absolute = true; positioned = positioned; frame = Framed; ended = false; moves = moves; line = line }
 
 -- behind that way all of the place is known
 abbrev pub known_behind : Option Pt3 → Known
 known_behind None = Nothing
 known_behind (Some p) = All
 
-abbrev pub going : Option Pt3 → Unit → Pt3 → Mode → Bool → ℕ → ℕ → Progress
-going begin unit here mode positioned moves line = known_to begin (known_behind begin) unit here mode positioned moves line
+abbrev pub going : ℤ → Option Pt3 → Unit → Pt3 → Mode → Bool → ℕ → ℕ → Progress
+going clear begin unit here mode positioned moves line = known_to clear begin (known_behind begin) unit here mode positioned moves line
 
 place-known : (begin : Option Pt3) → (if is_some begin then known_behind begin else All) ≡ All
 place-known None = refl
 place-known (Some p) = refl
 
-not_over : (unit : Unit) (n : ℕ) → n ≤ greatest_of unit → nat_lt (greatest_of unit) n ≡ false
+pub not_over : (unit : Unit) (n : ℕ) → n ≤ greatest_of unit → nat_lt (greatest_of unit) n ≡ false
 not_over unit n fits = grind (arith, nat_tests)
 
 times_one : (n : ℕ) → n * 1 ≡ n
@@ -146,23 +148,23 @@ axis_units-num unit line (negsuc n) fits =
 room : (moves : ℕ) → moves < MAX_MOVES → nat_le MAX_MOVES moves ≡ false
 room moves few = grind (arith, nat_tests)
 
-acted-move : (begin : Option Pt3) (unit : Unit) (here : Pt3) (mode : Mode) (positioned : Bool) (moves line : ℕ) (kind : Kind) (to : Pt3) → IsInUnitRange unit to → moves < MAX_MOVES
-    → acted (going begin unit here mode positioned moves line) (move_said unit kind to)
-    ≡ Ok (going begin unit to (On kind) true (moves + 1) line, record { kind = kind; from = here; to = to } ∷ [])
+acted-move : (clear : ℤ) (begin : Option Pt3) (unit : Unit) (here : Pt3) (mode : Mode) (positioned : Bool) (moves line : ℕ) (kind : Kind) (to : Pt3) → IsInUnitRange unit to → moves < MAX_MOVES
+    → acted (going clear begin unit here mode positioned moves line) (move_said unit kind to)
+    ≡ Ok (going clear begin unit to (On kind) true (moves + 1) line, record { kind = kind; from = here; to = to } ∷ [])
 unfolding acted moved target
-acted-move begin unit here mode positioned moves line kind to fits few =
+acted-move clear begin unit here mode positioned moves line kind to fits few =
     rw (place-known begin, axis_units-num unit line to.x fits.x_ok, axis_units-num unit line to.y fits.y_ok, axis_units-num unit line to.z fits.z_ok, room moves few) refl
 
 pub not_long : (n : ℕ) → n ≤ 256 → nat_lt 256 n ≡ false
 not_long n short = grind (arith, nat_tests)
 
 -- behind the header, the line of a move makes this move
-after_line-move : (begin : Option Pt3) (unit : Unit) (m : Move) (mode : Mode) (positioned : Bool) (moves number : ℕ) (line : List ℕ) → IsInUnitRange unit m.to → moves < MAX_MOVES → IsMoveLine unit m line
-    → after_line (going begin unit m.from mode positioned moves number) line ≡ Ok (going begin unit m.to (On (written_as m.kind)) true (moves + 1) (number + 1), as_written m ∷ [])
+after_line-move : (clear : ℤ) (begin : Option Pt3) (unit : Unit) (m : Move) (mode : Mode) (positioned : Bool) (moves number : ℕ) (line : List ℕ) → IsInUnitRange unit m.to → moves < MAX_MOVES → IsMoveLine unit m line
+    → after_line (going clear begin unit m.from mode positioned moves number) line ≡ Ok (going clear begin unit m.to (On (written_as m.kind)) true (moves + 1) (number + 1), as_written m ∷ [])
 unfolding after_line after_words
-after_line-move begin unit m mode positioned moves number line fits few is_line =
+after_line-move clear begin unit m mode positioned moves number line fits few is_line =
     rw (not_long (length line) is_line.short, is_line.other, is_line.words_are, said_by-move unit (number + 1) positioned m.kind m.from m.to)
-    (acted-move begin unit m.from mode positioned moves (number + 1) (written_as m.kind) m.to fits few)
+    (acted-move clear begin unit m.from mode positioned moves (number + 1) (written_as m.kind) m.to fits few)
 
 -- ---- the program
 
@@ -170,34 +172,34 @@ abbrev pub end_lines : List (List ℕ)
 end_lines = codes "M2" ∷ codes "%" ∷ [] ∷ []
 
 -- what a program says behind its header, up to its end
-moves_from-end : (begin : Option Pt3) (unit : Unit) (here : Pt3) (mode : Mode) (positioned : Bool) (count number : ℕ) (done : List Move)
-    → moves_from (going begin unit here mode positioned count number) done end_lines ≡ Ok (done ++ [])
+moves_from-end : (clear : ℤ) (begin : Option Pt3) (unit : Unit) (here : Pt3) (mode : Mode) (positioned : Bool) (count number : ℕ) (done : List Move)
+    → moves_from (going clear begin unit here mode positioned count number) done end_lines ≡ Ok (done ++ [])
 unfolding moves_from after_line after_words line_of read_marks marks_from grown_word finished started said_from after_entry entry_of whole_of acted
-moves_from-end begin unit here mode true count number done = refl
-moves_from-end begin unit here mode false count number done = refl
+moves_from-end clear begin unit here mode true count number done = refl
+moves_from-end clear begin unit here mode false count number done = refl
 
-moves_from-move : (begin : Option Pt3) (unit : Unit) (m : Move) (here : Pt3) (mode : Mode) (positioned : Bool) (count number : ℕ) (done : List Move) (line : List ℕ) (lines : List (List ℕ))
+moves_from-move : (clear : ℤ) (begin : Option Pt3) (unit : Unit) (m : Move) (here : Pt3) (mode : Mode) (positioned : Bool) (count number : ℕ) (done : List Move) (line : List ℕ) (lines : List (List ℕ))
     → m.from ≡ here → IsInUnitRange unit m.to → count < MAX_MOVES → IsMoveLine unit m line
-    → moves_from (going begin unit here mode positioned count number) done (line ∷ lines) ≡ moves_from (going begin unit m.to (On (written_as m.kind)) true (count + 1) (number + 1)) (done ++ as_written m ∷ []) lines
+    → moves_from (going clear begin unit here mode positioned count number) done (line ∷ lines) ≡ moves_from (going clear begin unit m.to (On (written_as m.kind)) true (count + 1) (number + 1)) (done ++ as_written m ∷ []) lines
 unfolding moves_from
-moves_from-move begin unit m here mode positioned count number done line lines follow fits few is_line =
-    rw (← follow, after_line-move begin unit m mode positioned count number line fits few is_line) refl
+moves_from-move clear begin unit m here mode positioned count number done line lines follow fits few is_line =
+    rw (← follow, after_line-move clear begin unit m mode positioned count number line fits few is_line) refl
 
 -- the lines of moves that follow on each other, up to the program's end
-pub moves_from-moves : (begin : Option Pt3) (unit : Unit) (line : Move → List ℕ) → ((m : Move) → MoveInUnitRange unit m → IsMoveLine unit m (line m))
+pub moves_from-moves : (clear : ℤ) (begin : Option Pt3) (unit : Unit) (line : Move → List ℕ) → ((m : Move) → MoveInUnitRange unit m → IsMoveLine unit m (line m))
     → (moves : List Move) (here : Pt3) (mode : Mode) (positioned : Bool) (count number : ℕ) (done : List Move)
     → Follow here moves → MovesInUnitRange unit moves → count + length moves ≤ MAX_MOVES
-    → moves_from (going begin unit here mode positioned count number) done (map line moves ++ end_lines) ≡ Ok (done ++ map as_written moves)
-moves_from-moves begin unit line is_line [] here mode positioned count number done follow fits few = moves_from-end begin unit here mode positioned count number done
-moves_from-moves begin unit line is_line (m ∷ moves) here mode positioned count number done follow fits few =
+    → moves_from (going clear begin unit here mode positioned count number) done (map line moves ++ end_lines) ≡ Ok (done ++ map as_written moves)
+moves_from-moves clear begin unit line is_line [] here mode positioned count number done follow fits few = moves_from-end clear begin unit here mode positioned count number done
+moves_from-moves clear begin unit line is_line (m ∷ moves) here mode positioned count number done follow fits few =
     let first : MoveInUnitRange unit m = fits m (search rules) in
     let others : MovesInUnitRange unit moves = λ n member. fits n (Contains-append_right (m ∷ []) moves n member) in
-    moves_from-move begin unit m here mode positioned count number done (line m) (map line moves ++ end_lines) follow.0 first.to_ok (omega arith) (is_line m first)
-    ∙ moves_from-moves begin unit line is_line moves m.to (On (written_as m.kind)) true (count + 1) (number + 1) (done ++ as_written m ∷ []) follow.1 others (omega arith)
+    moves_from-move clear begin unit m here mode positioned count number done (line m) (map line moves ++ end_lines) follow.0 first.to_ok (omega arith) (is_line m first)
+    ∙ moves_from-moves clear begin unit line is_line moves m.to (On (written_as m.kind)) true (count + 1) (number + 1) (done ++ as_written m ∷ []) follow.1 others (omega arith)
     ∙ ap (λ (ms : List Move). Ok ms) (append_assoc done (as_written m ∷ []) (map as_written moves))
 
 -- behind the header nothing is known yet of the tool's place, where it may be anywhere
 pub moves_from-header : (begin : Option Pt3) (unit : Unit) (start : Pt3) (lines : List (List ℕ))
-    → moves_from (start_at start unit (rules_with begin)) [] (codes "%" ∷ codes "G17 G21 G90" ∷ lines) ≡ moves_from (known_to begin Nothing unit start Off false 0 2) [] lines
+    → moves_from (start_at start unit (rules_with begin Strict)) [] (codes "%" ∷ codes "G17 G21 G90" ∷ lines) ≡ moves_from (known_to start.z begin Nothing unit start Off false 0 2) [] lines
 unfolding moves_from after_line after_words line_of read_marks marks_from grown_word finished started said_from after_entry entry_of whole_of acted
 moves_from-header begin unit start lines = refl

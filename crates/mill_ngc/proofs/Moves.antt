@@ -19,7 +19,9 @@ use Rattle.mill_words.specs.declared.word.Word.{Word}
 use Rattle.mill_words.proofs.Spelled.{Spelled, IsSpelled, AreSpelled, spelling, more_text, word_of, line_of-spelled}
 use Rattle.mill_block.specs.Lines.{is_percent}
 use Rattle.mill_ngc.proofs.MoveLines.{IsLine, axis_of, motion_of}
+use Rattle.mill_block.specs.declared.rules.Words.TheVariants.{Strict, Machine}
 use Rattle.mill_ngc.proofs.Heads.{AreHead, across_words, program_of-moves, up_words}
+use Rattle.mill_ngc.proofs.MachineMoves.{program_of-running}
 use Rattle.mill_ngc.specs.Writing.{across_line, axis_word, ended, head_lines, head_moves, motion_word, move_line, program_lines, program_text, stay, up_line}
 use Rattle.mill_ngc.specs.Readings.{ReadsBack}
 use Rattle.mill_ngc.proofs.Cutting.{NoFeed, NoFeeds, NoFeed-append, NoFeeds-append, lines_of-ended}
@@ -236,7 +238,12 @@ NoFeeds-program unit begin moves has = (
 -- the text of moves reads back
 pub reads_back : (unit : Unit) (begin : Option Pt3) (moves : List Move) → ReadsBack unit begin moves (program_text unit begin moves)
 unfolding program_text
-reads_back unit begin moves start follow fits few =
+reads_back unit begin moves Strict may start follow fits few =
     let has : HasHead unit begin moves = has_head unit begin moves fits in
     program_of-moves unit (move_line unit) (λ m ok. (move_line-is unit m ok.to_ok).line_ok) begin start moves (head_lines unit begin) (flat_map ended (program_lines unit begin moves)) has.head follow fits few
     (lines_of-ended (program_lines unit begin moves) (NoFeeds-program unit begin moves has) ∙ simp append_assoc)
+reads_back unit None moves (Machine c) may start follow fits few = absurd may
+reads_back unit (Some p) moves (Machine c) may start follow fits few =
+    let has : HasHead unit (Some p) moves = has_head unit (Some p) moves fits in
+    program_of-running c unit (move_line unit) (λ m ok. (move_line-is unit m ok.to_ok).line_ok) p start moves (head_lines unit (Some p)) (flat_map ended (program_lines unit (Some p) moves)) has.head follow fits few
+    (lines_of-ended (program_lines unit (Some p) moves) (NoFeeds-program unit (Some p) moves has) ∙ simp append_assoc)

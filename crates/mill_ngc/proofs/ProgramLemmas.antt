@@ -46,6 +46,7 @@ pub so_far-first : (start : Pt3) (unit : Unit) (rules : Rules) → IsInUnitRange
 so_far-first start unit rules here = record {
   rules_are = refl;
   unit_is = refl;
+  clear_is = refl;
   here = here;
   in_range = λ m member. absurd (omega (arith, member.1));
   follow = record { from = start; over = same_height start.z; at_start = λ _. refl; follow = tt };
@@ -60,12 +61,13 @@ so_far-first start unit rules here = record {
 pub so_far-line : (start : Pt3) (unit : Unit) (rules : Rules) (p q : Progress) (moves made : List Move) → SoFar start unit rules p moves → Keeps p made q
     → SoFar start unit rules q (moves ++ made)
 so_far-line start unit rules p q moves made s keeps =
-    let so_far : OnWay start rules p moves = record { rules_are = s.rules_are; follow = s.follow; end = s.end; none = s.none; high = s.high } in
+    let so_far : OnWay start rules p moves = record { rules_are = s.rules_are; clear_is = s.clear_is; follow = s.follow; end = s.end; none = s.none; high = s.high } in
     let way : OnWay start rules q (moves ++ made) =
-    on_way-line start rules p q moves made so_far (record { follow = keeps.follow; end = keeps.end; known = keeps.known; none = keeps.none; rises = keeps.rises; rules_are = keeps.same_rules }) in
+    on_way-line start rules p q moves made so_far (record { follow = keeps.follow; end = keeps.end; known = keeps.known; none = keeps.none; rises = keeps.rises; clear_is = keeps.same_clear; rules_are = keeps.same_rules }) in
     record {
       rules_are = way.rules_are;
       unit_is = keeps.same_unit ∙ s.unit_is;
+      clear_is = way.clear_is;
       here = rw s.unit_is at keeps.here;
       in_range = MovesInUnitRange-append unit moves made s.in_range (rw s.unit_is at keeps.in_range);
       follow = way.follow;
@@ -79,7 +81,7 @@ so_far-line start unit rules p q moves made s keeps =
 -- a line begins with what holds before it
 pub so_far-begun : (start : Pt3) (unit : Unit) (rules : Rules) (p : Progress) (moves : List Move) → SoFar start unit rules p moves → SoFar start unit rules (line_begun p) moves
 so_far-begun start unit rules p moves s =
-    record { rules_are = s.rules_are; unit_is = s.unit_is; here = s.here; in_range = s.in_range; follow = s.follow; end = s.end; none = s.none; high = s.high; count = s.count; few = s.few }
+    record { rules_are = s.rules_are; unit_is = s.unit_is; clear_is = s.clear_is; here = s.here; in_range = s.in_range; follow = s.follow; end = s.end; none = s.none; high = s.high; count = s.count; few = s.few }
 
 -- as many moves as the lines have made are few enough
 pub are_sound : (start : Pt3) (unit : Unit) (rules : Rules) (p : Progress) (moves : List Move) → SoFar start unit rules p moves → AreSound start unit rules moves

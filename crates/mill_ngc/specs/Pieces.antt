@@ -6,10 +6,10 @@ use Rattle.mill_base.specs.declared.motion.Move.{Move}
 use Rattle.mill_base.specs.declared.unit.Unit.{Unit}
 use Rattle.mill_base.specs.Motion.{Follow}
 use Rattle.mill_base.specs.Ranges.{IsInUnitRange, MovesInUnitRange}
+use Rattle.mill_control.specs.Drilled.{ends_at}
 use Rattle.mill_block.specs.declared.fault.NgcFault.{NgcFault}
 use Rattle.mill_block.specs.declared.fault.NgcFault.TheVariants as fault
 use Rattle.mill_block.specs.declared.progress.Progress.{Progress}
-use Rattle.mill_block.specs.Kept.{end_of}
 use Rattle.mill_block.specs.Lines.{after_line, start_at}
 use Rattle.mill_block.specs.Motion.{known_of}
 use Rattle.mill_block.specs.declared.progress.Known.TheVariants.{All}
@@ -111,10 +111,11 @@ pub record AreSound (start : Pt3) (unit : Unit) (rules : Rules) (moves : List Mo
 pub record SoFar (start : Pt3) (unit : Unit) (rules : Rules) (p : Progress) (moves : List Move) : Type 0 where
   pub rules_are : p.rules ≡ rules
   pub unit_is : p.unit ≡ unit
+  pub clear_is : start.z ≡ p.clear
   pub here : IsInUnitRange unit p.here
   pub in_range : MovesInUnitRange unit moves
   pub follow : FollowOn start rules moves
-  pub end : known_of p ≡ All → end_of follow.from moves ≡ p.here
+  pub end : known_of p ≡ All → ends_at follow.from moves ≡ p.here
   pub none : (known_of p ≡ All) ⊎ (moves ≡ [])
   pub high : (known_of p ≡ All) ⊎ (start.z ≤ℤ p.here.z)
   pub count : length moves ≡ p.moves

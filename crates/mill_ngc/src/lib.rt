@@ -19,7 +19,7 @@ mod unfinished;
 mod walk;
 
 pub use laws::{pieces_join, pieces_read_program};
-pub use mill_block::{NgcFault, Rules};
+pub use mill_block::{Control, NgcFault, Rules, Words};
 pub use place::{LineSpan, line_words};
 pub use program::write_program;
 pub use reader::Reader;

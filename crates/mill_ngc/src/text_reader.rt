@@ -26,6 +26,7 @@ pub(crate) struct TextReader {
 
 impl TextReader {
     pub fn new(start: Pt3, unit: Unit, rules: Rules) -> Self
+        requires { IsInUnitRange unit start }
         ensures lines { result.lines ≡ start_at start unit rules }
         ensures unfinished { result.unfinished ≡ [] }
     {

@@ -1,13 +1,13 @@
 -- What the verdict on a plan's moves comes to.
 use Rattle.std.specs.Prelude.{◌≡◌, ℕ, Bool, false, ℤ, List, [], map, Ok}
-use Rattle.std.proofs.Common.{subst}
+use Rattle.std.proofs.Common.{subst, sym}
 use Rattle.mill_base.specs.declared.motion.Move.{Move}
 use Rattle.mill_base.specs.declared.points.Tri.{Tri}
 use Rattle.mill_job.specs.Columns.{home}
 use Rattle.mill_job.specs.Jobs.{IsJob}
 use Rattle.mill_job.specs.declared.fields.JobFields.{JobFields}
 use Rattle.mill_ngc.specs.Programs.{program_of}
-use Rattle.mill_ngc.specs.Readings.{ReadsAs}
+use Rattle.mill_ngc.specs.Readings.{MayHave, ReadsAs}
 use Rattle.mill_ngc.specs.Writing.{as_written}
 use Rattle.mill_obstacles.specs.Faces.{obstacles_of}
 use Rattle.mill_sweep.specs.declared.leaf.Leaf.{Leaf}
@@ -30,8 +30,8 @@ module _ (job : JobFields) (part : List Tri) (moves : List Move) (plan : HasPlan
     moves = moves;
     plan = plan;
     written = written;
-    reads = subst (λ (b : Bool). program_of (home job) job.unit (record { from_anywhere = b; needs_spindle = false }) text ≡ Ok (map as_written moves)) (begins_elsewhere job)
-        (reads (home job) (follow job (obstacles_of job part) (home job) (home job) moves go) (in_range job (obstacles_of job part) (home job) (home job) moves go) plan.few);
+    reads = λ words may. subst (λ (b : Bool). program_of (home job) job.unit (record { from_anywhere = b; needs_spindle = false; words = words }) text ≡ Ok (map as_written moves)) (begins_elsewhere job)
+        (reads words (subst (λ (b : Bool). MayHave b words) (sym (begins_elsewhere job)) may) (home job) (follow job (obstacles_of job part) (home job) (home job) moves go) (in_range job (obstacles_of job part) (home job) (home job) moves go) plan.few);
     made = read_made job (obstacles_of job part) [] moves go.safe;
     in_range = in_range job (obstacles_of job part) (home job) (home job) moves go;
     accepted = accepted;

@@ -9,11 +9,13 @@ use Rattle.mill_base.specs.Ranges.{MovesInUnitRange}
 use Rattle.mill_base.specs.declared.points.Pt3.{Pt3}
 use Rattle.mill_base.specs.declared.points.Tri.{Tri}
 use Rattle.mill_base.specs.declared.motion.Move.{Move}
+use Rattle.mill_block.specs.declared.rules.Words.{Words}
 use Rattle.mill_job.specs.Columns.{home, column_x, column_y}
 use Rattle.mill_job.specs.Habits.{is_elsewhere, run_by}
 use Rattle.mill_job.specs.Solids.{inner_of}
 use Rattle.mill_job.specs.declared.fields.JobFields.{JobFields}
 use Rattle.mill_ngc.specs.Programs.{program_of}
+use Rattle.mill_ngc.specs.Readings.{MayHave}
 use Rattle.mill_links.specs.Links.{head}
 use Rattle.mill_links.specs.declared.visit.Visit.{Visit}
 use Rattle.mill_obstacles.specs.Faces.{obstacles_of}
@@ -111,13 +113,14 @@ plan_text job moves = program_text job.unit (begin_of job) (behind_head job move
 
 -- ---- the answers
 
--- the text is the plan's, and reads back in the job's unit, from the job's home or, where the job has it so, from elsewhere, as moves of which the job's machine makes the plan's, which are in its range;
+-- the text is the plan's, and reads back in the job's unit, from the job's home or, where the job has it so, from elsewhere, whichever words its programs have, as moves of which the job's machine makes the plan's, which are in its range;
 -- the verdict on them is acceptance, with these numbers, and they cut safely
 pub record IsDone (job : JobFields) (part : List Tri) (text : List ℕ) (count columns : ℕ) (left : ℤ) : Type 0 where
   pub moves : List Move
   pub plan : HasPlan job (obstacles_of job part) moves
   pub written : text ≡ plan_text job moves
-  pub reads : program_of (home job) job.unit (record { from_anywhere = is_elsewhere job.start; needs_spindle = false }) text ≡ Ok (map as_written moves)
+  pub reads : (words : Words) → MayHave (is_elsewhere job.start) words
+      → program_of (home job) job.unit (record { from_anywhere = is_elsewhere job.start; needs_spindle = false; words = words }) text ≡ Ok (map as_written moves)
   pub made : moves ≡ run_by job.rapids (map as_written moves)
   pub in_range : MovesInUnitRange job.unit moves
   pub accepted : IsVerdict job part moves (Accept count columns left)

@@ -2,6 +2,7 @@
 ghost use Rattle.mill_base.specs.Ranges.{IsInUnitRange};
 ghost use Rattle.mill_base.specs.declared.unit.Unit.TheVariants.{Hundredth};
 
+mod machine;
 mod pieces;
 mod rules;
 

@@ -2,7 +2,7 @@
 ghost use Rattle.mill_base.specs.Ranges.{IsInUnitRange};
 
 use mill_base::{Kind, Move, Pt3, Unit};
-use mill_ngc::{NgcFault, Reader, Rules, write_program};
+use mill_ngc::{NgcFault, Reader, Rules, Words, write_program};
 use std::alloc::Global;
 use std::process::Abort;
 use std::test::Fail;
@@ -17,6 +17,7 @@ const HOME: Pt3 = Pt3 {
 const ANYWHERE: Rules = Rules {
     from_anywhere: true,
     needs_spindle: false,
+    words: Words::Strict,
 };
 
 const LOWEST: Pt3 = Pt3 {

@@ -11,7 +11,7 @@ ghost use Rattle.mill_job.specs.Columns.{home};
 
 use mill_base::{Box2, Cutter, Kind, Move, Pt3, Solid, Unit};
 use mill_decimal::Snap;
-use mill_job::{Fixtures, Job, JobFields, Levels, Place, Rapids, Start};
+use mill_job::{Fixtures, Job, JobFields, Levels, Place, Rapids, Start, ToolLengths, Words};
 use mill_part::SortedPart;
 use mill_tables::part_under;
 use std::alloc::Global;
@@ -62,6 +62,9 @@ pub(crate) fn block_job(max_cut: u8, holder: Option<Solid>) -> Job
         rapids: Rapids::Straight,
         start: Start::Home,
         spindle: false,
+        words: Words::Strict,
+        peck_clearance: None,
+        lengths: ToolLengths::Table,
     })
 }
 

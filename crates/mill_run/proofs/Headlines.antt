@@ -35,8 +35,8 @@ use Rattle.mill_ngc.specs.Pieces.{FollowOn}
 use Rattle.mill_ngc.specs.Programs.{program_of}
 use Rattle.mill_ngc.specs.Writing.{as_written}
 use Rattle.mill_ngc.proofs.Follows.{text_follows}
-use Rattle.mill_load.specs.Programs.{rules_of}
-use Rattle.mill_load.proofs.Asked.{asks_start}
+use Rattle.mill_load.specs.Programs.{dialect_of, rules_of}
+use Rattle.mill_load.proofs.Asked.{asks_start, may_have}
 use Rattle.mill_load.proofs.Bending.{run_follow}
 use Rattle.mill_run.proofs.Lengths.{plan_fits}
 use Rattle.mill_run.proofs.Outcomes.{answered_by, answers_of}
@@ -126,7 +126,7 @@ done_safely : StartIsSafe → (call : Call) (files : PlanFiles) (job : JobFields
     → IsDone job part text count columns left → IsStored files.out text call.store call.store_after → IsWritten (plan_line job.unit (done text count columns left)) call.sink call.sink_after
     → StoresSafely call files
 done_safely law call files job part text count columns left plans job_ok under still d stored printed =
-    let reads : program_of (home job) job.unit (rules_of job) text ≡ Ok (map as_written d.moves) = rw (asks_start job still) d.reads in
+    let reads : program_of (home job) job.unit (rules_of job) text ≡ Ok (map as_written d.moves) = rw (asks_start job still) (d.reads (dialect_of job.words job) (may_have job job_ok)) in
     let follow : FollowOn (home job) (rules_of job) d.moves =
     subst (FollowOn (home job) (rules_of job)) (sym d.made)
     (run_follow job.rapids (home job) (rules_of job) (map as_written d.moves) (text_follows (home job) job.unit (rules_of job) text (map as_written d.moves) reads)) in record {

@@ -12,8 +12,9 @@ use Rattle.mill_job.specs.Habits.{run_by}
 use Rattle.mill_job.specs.declared.fields.JobFields.{JobFields}
 use Rattle.mill_ngc.specs.Programs.{program_of}
 use Rattle.mill_ngc.specs.Writing.{as_written}
-use Rattle.mill_load.specs.Programs.{SaysMoves, rules_of}
-use Rattle.mill_load.proofs.Asked.{asks_start}
+use Rattle.mill_load.specs.Programs.{SaysMoves, dialect_of, rules_of}
+use Rattle.mill_job.specs.Jobs.{IsJob}
+use Rattle.mill_load.proofs.Asked.{asks_start, may_have}
 use Rattle.mill_command.specs.Requests.{sample}
 use Rattle.mill_io.specs.Views.{StoreView, SinkView, ReadsOnly}
 use Rattle.mill_plan.specs.Plans.{too_many_nodes, done, too_many_moves, uncut, held, answer_of, IsDone, IsPlanAnswer, IsPlanFault}
@@ -47,9 +48,9 @@ sample_still n job part made = ap (λ (j : JobFields). j.spindle) made.job_is
 
 -- the verdict on a plan's text, as it reads for a job that asks for no spindle, is the plan's
 pub plan_verdict : OneVerdict → (job : JobFields) (part : List Tri) (text : List ℕ) (count columns : ℕ) (left : ℤ) (read : List Move) (r : Result Verdict WantOfMemory)
-    → IsDone job part text count columns left → job.spindle ≡ false → SaysMoves job text read → IfOk r (IsVerdict job part read) → IfOk r (λ v. v ≡ Accept count columns left)
-plan_verdict one job part text count columns left read r made still says verdict =
-    let planned : program_of (home job) job.unit (rules_of job) text ≡ Ok (map as_written made.moves) = rw (asks_start job still) made.reads in
+    → IsJob job → IsDone job part text count columns left → job.spindle ≡ false → SaysMoves job text read → IfOk r (IsVerdict job part read) → IfOk r (λ v. v ≡ Accept count columns left)
+plan_verdict one job part text count columns left read r ok made still says verdict =
+    let planned : program_of (home job) job.unit (rules_of job) text ≡ Ok (map as_written made.moves) = rw (asks_start job still) (made.reads (dialect_of job.words job) (may_have job ok)) in
     let same : read ≡ made.moves = says.made ∙ ap (run_by job.rapids) (ok_is says.read (map as_written made.moves) (sym says.reads ∙ planned)) ∙ sym made.made in
     IfOk-weaker r (IsVerdict job part read) (λ v. v ≡ Accept count columns left)
     (λ v is. one job part made.moves v (Accept count columns left) (subst (λ (m : List Move). IsVerdict job part m v) same is) made.accepted) verdict

@@ -9,6 +9,8 @@ use Rattle.mill_decimal.specs.declared.snap.Snap.TheVariants.{Nearest}
 use Rattle.mill_job.specs.declared.fields.JobFields.{JobFields}
 use Rattle.mill_job.specs.declared.habits.Rapids.TheVariants.{Straight}
 use Rattle.mill_job.specs.declared.habits.Start.TheVariants.{Home}
+use Rattle.mill_job.specs.declared.habits.ToolLengths.TheVariants.{Table}
+use Rattle.mill_job.specs.declared.habits.Words.TheVariants.{Strict}
 use Rattle.mill_base.specs.Covers.{IsUnder}
 
 -- ---- the part
@@ -65,6 +67,9 @@ sample_job n = record {
   rapids = Straight;
   start = Home;
   spindle = false;
+  words = Strict;
+  peck_clearance = None;
+  lengths = Table;
 }
 
 -- ---- both

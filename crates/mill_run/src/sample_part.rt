@@ -4,7 +4,7 @@ ghost use Rattle.mill_run.specs.SamplePart.{IsSample, IsSize, sample_job as job_
 
 use mill_base::{Box2, Cutter, Pt3, Tri, Unit, WantOfMemory};
 use mill_decimal::Snap;
-use mill_job::{Fixtures, Job, JobFields, Levels, Place, Rapids, Start};
+use mill_job::{Fixtures, Job, JobFields, Levels, Place, Rapids, Start, ToolLengths, Words};
 use mill_load::Setup;
 use mill_part::Part;
 use std::alloc::Global;
@@ -72,6 +72,9 @@ fn sample_fields(size: u32) -> JobFields
         rapids: Rapids::Straight,
         start: Start::Home,
         spindle: false,
+        words: Words::Strict,
+        peck_clearance: None,
+        lengths: ToolLengths::Table,
     }
 }
 

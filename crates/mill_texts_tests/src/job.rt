@@ -6,7 +6,10 @@
 use crate::tables::{same, text_of_row};
 use mill_base::{Box2, Cutter, Pt3, Solid, Tool, Unit};
 use mill_decimal::Snap;
-use mill_job::{Fixtures, JobFault, JobFields, Key, Levels, Name, Place, Rapids, Start, read_job};
+use mill_job::{
+    Fixtures, JobFault, JobFields, Key, Levels, Name, Place, Rapids, Start, ToolLengths, Words,
+    read_job,
+};
 use mill_tables::halves;
 use std::alloc::Global;
 use std::process::Abort;
@@ -87,6 +90,9 @@ const JOB: JobFields = JobFields {
     rapids: Rapids::Straight,
     start: Start::Home,
     spindle: false,
+    words: Words::Strict,
+    peck_clearance: None,
+    lengths: ToolLengths::Table,
 };
 
 /// What is said of a text: the job as it is, its levels and its fixtures, or its fault.

@@ -20,14 +20,21 @@ const READ: &str = r#"# => keep_out = [] => and fixtures []
 # => unit = "thousandth"\nkeep_out = [[-524287, 0, 524287, 0, -524287]] => height: -524287 }]
 # => slack = 20\nkeep_out = [[0, 0, 0, 0, 380]] => height: 380 }]
 "flat" => "cone"\nrise = 4\nrun = 3\nslack = 2\nkeep_out = [[0, 0, 0, 0, 396]] => height: 396 }]
-# => # => rapids: Straight, start: Home, spindle: false } with
+# => # => rapids: Straight, start: Home, spindle: false, words: Strict, peck_clearance: None, lengths: Table } with
 # => rapids = "straight" => rapids: Straight, start: Home
 # => rapids = "axes" => rapids: Axes, start: Home
 # => start = "change"\nrapids = "axes" => rapids: Axes, start: Change
-# => spindle = true => start: Home, spindle: true } with
-# => start = "anywhere" => start: Anywhere, spindle: false }
-# => start = "change"\nspindle = false => start: Change, spindle: false }
-# => start = "home" => start: Home, spindle: false }"#;
+# => spindle = true => start: Home, spindle: true, words: Strict
+# => start = "anywhere" => start: Anywhere, spindle: false, words
+# => start = "change"\nspindle = false => start: Change, spindle: false, words
+# => start = "home" => start: Home, spindle: false, words
+# => words = "strict" => words: Strict, peck_clearance: None, lengths: Table }
+# => start = "anywhere"\nwords = "machine" => start: Anywhere, spindle: false, words: Machine, peck
+# => start = "change"\nwords = "machine" => start: Change, spindle: false, words: Machine, peck
+# => peck_clearance = 0 => words: Strict, peck_clearance: Some(0), lengths: Table }
+# => peck_clearance = 10000 => peck_clearance: Some(10000), lengths: Table }
+# => lengths = "table" => lengths: Table }
+# => lengths = "one" => words: Strict, peck_clearance: None, lengths: One }"#;
 
 #[test]
 fn reads_what_the_machine_is(rt: HostRuntime) -> Result<(), Fail> {
@@ -69,6 +76,19 @@ const REFUSED: &str = r#"# => keep_out = 5 => wrong kind of keep_out
 # => start = "home "\nspindle = 1 => start out of range
 # => start = 0 => wrong kind of start
 # => spindle = 1 => wrong kind of spindle
+# => spindle = 1\nwords = 1 => wrong kind of spindle
+# => words = "Machine" => words out of range
+# => words = 1\npeck_clearance = -1 => wrong kind of words
+# => words = "machine" => words doesn't fit start
+# => start = "home"\nwords = "machine" => words doesn't fit start
+# => words = "machine"\nkeep_out = [[0, 0, 0, 0, 401]] => keep_out doesn't fit clear
+# => peck_clearance = -1 => peck_clearance out of range
+# => peck_clearance = 10001\nlengths = 1 => peck_clearance out of range
+# => peck_clearance = "0" => wrong kind of peck_clearance
+# => lengths = "two" => lengths out of range
+# => lengths = 1 => wrong kind of lengths
+# => lengths = 1\nwords = "machine" => wrong kind of lengths
+# => length = "one" => unknown length
 band = 0 => band = 151\nspindle = "true" => wrong kind of spindle
 # => keep_outs = [] => unknown keep_outs"#;
 

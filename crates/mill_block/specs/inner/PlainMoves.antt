@@ -14,8 +14,15 @@ use Rattle.mill_words.specs.Lines.{EndsWord, and_word, is_word_letter, line_from
 use Rattle.mill_words.specs.Words.{Line}
 use Rattle.mill_words.specs.declared.word.Num.{Num}
 use Rattle.mill_words.specs.declared.word.Word.{Word}
+use Rattle.mill_control.specs.declared.place.Height.TheVariants.{Known as KnownHeight}
 use Rattle.mill_block.specs.declared.fault.NgcFault.{NgcFault}
 use Rattle.mill_block.specs.declared.groups.Group.{Group}
+use Rattle.mill_block.specs.declared.machine.Machine.{Machine}
+use Rattle.mill_block.specs.declared.machine_said.MachineSaid.{MachineSaid}
+use Rattle.mill_block.specs.declared.machine_said.Motion.{Motion as LineMotion}
+use Rattle.mill_block.specs.declared.machine_said.Motion.TheVariants as line_motion
+use Rattle.mill_block.specs.declared.machine_table.Meaning.TheVariants as meaning
+use Rattle.mill_block.specs.declared.machine_takes.Takes.{Takes}
 use Rattle.mill_block.specs.declared.plain_move.PlainLine.{PlainLine}
 use Rattle.mill_block.specs.declared.plain_move.PlainMove.{PlainMove}
 use Rattle.mill_block.specs.declared.profile.Effect.TheVariants.{Motion}
@@ -24,8 +31,12 @@ use Rattle.mill_block.specs.declared.profile.Mode.TheVariants.{On}
 use Rattle.mill_block.specs.declared.progress.Drive.{Drive}
 use Rattle.mill_block.specs.declared.progress.Known.TheVariants.{All}
 use Rattle.mill_block.specs.declared.progress.Progress.{Progress}
+use Rattle.mill_block.specs.declared.rules.Words.{Words}
+use Rattle.mill_block.specs.declared.rules.Words.TheVariants.{Strict, Machine as MachineWords}
 use Rattle.mill_block.specs.declared.said.Said.{Said}
 use Rattle.mill_block.specs.Drives.{full_drive}
+use Rattle.mill_block.specs.MachineSaid.{nothing_told, told_from, told_word}
+use Rattle.mill_block.specs.MachineTable.{in_group, machine_g_row, row_in, tenths_of}
 use Rattle.mill_block.specs.Motion.{known_of, made_move}
 use Rattle.mill_block.specs.Numbers.{axis_units, is_over_zero, whole_of}
 use Rattle.mill_block.specs.Profile.{entry_in, g_entry, is_same_group, row}
@@ -45,10 +56,14 @@ IsAxis unit line None None = Unit {0}
 IsAxis unit line (Some units) (Some n) = IsUnits unit line units n
 IsAxis unit line units n = ⊥
 
--- the number of a G word sets this motion mode
+-- the number of a G word sets this motion mode, by either table
+pub record SetsMotion (n : Num) (kind : Kind) : Type 0 where
+  pub strict : entry_in g_entry (whole_of n) ≡ Some (row 1 (Motion (On kind)))
+  pub machine : row_in machine_g_row (tenths_of n) ≡ in_group 1 (meaning.Straight kind)
+
 abbrev pub IsMotion : Num → Option Kind → Type 0
 IsMotion n None = ⊥
-IsMotion n (Some kind) = entry_in g_entry (whole_of n) ≡ Some (row 1 (Motion (On kind)))
+IsMotion n (Some kind) = SetsMotion n kind
 
 abbrev pub mode_of : Option Kind → Option Mode
 mode_of None = None
@@ -100,10 +115,20 @@ pub record IsCapital (b : ℕ) : Type 0 where
   pub alphabetic : is_ascii_alphabetic b ≡ true
   pub upper : to_ascii_uppercase b ≡ b
 
--- one word more has said this
+-- the motion that this mode is on a line for a machine
+abbrev pub motion_of : Option Mode → Option LineMotion
+motion_of (Some (On kind)) = Some (line_motion.Goes kind)
+motion_of mode = None
+
+-- the same words tell this on a line for a machine, if all of them are plain
+abbrev pub told_as : Bool → Said → MachineSaid
+told_as begun s = record nothing_told { begun = begun; groups = s.groups; motion = motion_of s.mode; rate = s.rate; x = s.x; y = s.y; z = s.z }
+
+-- one word more has said this, by either table
 pub record Goes (unit : LengthUnit) (line : ℕ) (positioned : Bool) (w : Word) (s : Said) (plain : PlainLine) : Type 0 where
   pub said : Said
   pub taken : after_word line positioned s w ≡ Ok said
+  pub told : (p : Progress) (t : Takes) (begun : Bool) → told_word p t (told_as begun s) w ≡ Ok (told_as true said)
   pub says : Says unit line plain said
 
 -- ---- the move
@@ -112,8 +137,24 @@ pub record Goes (unit : LengthUnit) (line : ℕ) (positioned : Bool) (w : Word) 
 abbrev pub HasDrive : Bool → Drive → Type 0
 HasDrive asked d = (if asked then d else full_drive) ≡ full_drive
 
--- a line that is only a move changes neither the frame nor the settings, and there is room for its move; the tool's place is known, and what a feed needs is there
+-- a line that is only a move changes nothing that words for a machine have settled: there is no drilling cycle, lengths are millimetres, the place is known and was named under what is in force, and no tool has been selected since
+pub record IsSettled (m : Machine) : Type 0 where
+  pub inches : m.inches ≡ false
+  pub cycle : m.cycle ≡ None
+  pub series : m.series ≡ None
+  pub place : m.place ≡ record { across = true; height = KnownHeight }
+  pub named : m.named ≡ record { height = Some m.offsets; across = Some m.offsets.zero }
+  pub has_named : m.has_named ≡ true
+  pub late : m.late ≡ false
+
+-- with these words such a line is only a move: with strict ones always
+abbrev pub TakesPlain : Words → Machine → Type 0
+TakesPlain Strict m = Unit {0}
+TakesPlain (MachineWords c) m = IsSettled m
+
+-- a line that is only a move changes neither the frame nor the settings, and there is room for its move; its words do no more, the tool's place is known, and what a feed needs is there
 pub record IsReady (p : Progress) : Type 0 where
+  pub words : TakesPlain p.rules.words p.machine
   pub place : known_of p ≡ All
   pub drive : HasDrive p.rules.needs_spindle p.drive
   pub few : p.moves < MAX_MOVES
@@ -145,6 +186,8 @@ pub record MovesTo (p : Progress) (l : Line) (m : PlainMove) : Type 0 where
 pub record TakenTo (p : Progress) (words : List Word) (i : ℕ) (plain : PlainLine) : Type 0 where
   pub said : Said
   pub so_far : said_from p.line p.positioned said (drop i words) ≡ said_from p.line p.positioned nothing_said words
+  pub begun : Bool
+  pub told : (q : Progress) (t : Takes) → told_from q t (told_as begun said) (drop i words) ≡ told_from q t nothing_told words
   pub says : Says p.unit p.line plain said
 
 -- the bytes of a line before a place are words that have said this
@@ -154,6 +197,8 @@ pub record ReadTo (p : Progress) (bytes : List ℕ) (place : ℕ) (plain : Plain
   pub slash : line.slash ≡ false
   pub said : Said
   pub so_far : (more : List Word) → said_from p.line p.positioned nothing_said (line.words ++ more) ≡ said_from p.line p.positioned said more
+  pub begun : Bool
+  pub told : (q : Progress) (t : Takes) (more : List Word) → told_from q t nothing_told (line.words ++ more) ≡ told_from q t (told_as begun said) more
   pub says : Says p.unit p.line plain said
   pub few : length line.words ≤ words_in plain
 

@@ -7,7 +7,7 @@ use Rattle.mill_base.specs.declared.unit.Unit.{Unit}
 use Rattle.mill_job.specs.Cutters.{shape_of}
 use Rattle.mill_job.specs.Documents.{snap_of}
 use Rattle.mill_job.specs.Fixtures.{fixtures_at, fixtures_fault}
-use Rattle.mill_job.specs.Habits.{flag_at, flag_fault, rapids_of, rapids_texts, start_of, start_texts}
+use Rattle.mill_job.specs.Habits.{flag_at, flag_fault, lengths_of, lengths_texts, rapids_of, rapids_texts, start_of, start_texts, words_of, words_texts}
 use Rattle.mill_job.specs.Holders.{holder_fault, holder_of}
 use Rattle.mill_job.specs.Tables.{are_levels, area_of, array_fault, array_fault_if_there, coordinate_fault, is_area, is_place, levels_of, number_at, number_fault, number_fault_if_there, number_given, number_or, numbers_at, place_of, text_fault_if_there}
 use Rattle.mill_job.specs.declared.cutter.Outline.{Outline}
@@ -100,6 +100,9 @@ extras_faults unit ms =
     ∷ text_fault_if_there key.Rapids rapids_texts ms
     ∷ text_fault_if_there key.Start start_texts ms
     ∷ flag_fault key.Spindle ms
+    ∷ text_fault_if_there key.Words words_texts ms
+    ∷ number_fault_if_there key.PeckClearance (pos 0) MAX_DISTANCE ms
+    ∷ text_fault_if_there key.Lengths lengths_texts ms
     ∷ []
 
 abbrev pub extras_of : Members → Extras
@@ -115,6 +118,9 @@ extras_of ms = record {
   rapids = rapids_of ms;
   start = start_of ms;
   spindle = flag_at key.Spindle ms;
+  words = words_of ms;
+  peck_clearance = number_given key.PeckClearance ms;
+  lengths = lengths_of ms;
 }
 
 -- the job of what all of them say
@@ -148,4 +154,7 @@ job_of_groups unit cutter space measure paths extras = record {
   rapids = extras.rapids;
   start = extras.start;
   spindle = extras.spindle;
+  words = extras.words;
+  peck_clearance = extras.peck_clearance;
+  lengths = extras.lengths;
 }

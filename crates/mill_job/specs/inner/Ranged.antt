@@ -73,4 +73,5 @@ pub record AreExtras (unit : Unit) (extras : Extras) : Type 0 where
   pub slack_ok : IsFrom (pos 0) MAX_SLACK extras.slack
   pub overcut_ok : IsFrom (pos 0) MAX_OVERCUT extras.overcut
   pub graze_ok : IfSome extras.graze (IsFrom (pos 0) MAX_GRAZE)
+  pub peck_clearance_ok : IfSome extras.peck_clearance (IsFrom (pos 0) MAX_DISTANCE)
   pub keep_out_ok : AreFixtures unit extras.keep_out

@@ -1,5 +1,5 @@
 -- What the steps of reading come to: of a program's file in pieces, of the part's top and of one word.
-use Rattle.std.specs.Prelude.{◌≡◌, ◌≤◌, ℕ, ℤ, ◌<ℤ◌, List, [], length, take, Option, Some, None, IfSome, Result, Ok, Err}
+use Rattle.std.specs.Prelude.{◌≡◌, ◌≤◌, Bool, true, false, ℕ, ℤ, ◌<ℤ◌, List, [], length, take, Option, Some, None, IfSome, Result, Ok, Err}
 use Rattle.mill_base.specs.declared.limits.TheConstants.{MAX_FILE_BYTES}
 use Rattle.mill_base.specs.declared.points.Pt3.{Pt3}
 use Rattle.mill_base.specs.declared.points.Tri.{Tri}
@@ -10,6 +10,8 @@ use Rattle.mill_decimal.specs.Decimals.{read_as}
 use Rattle.mill_decimal.specs.declared.snap.Snap.TheVariants.{Exact}
 use Rattle.mill_io.specs.Readings.{AreHeld, Reading as FileReading}
 use Rattle.mill_io.specs.declared.pieces.PieceEnd.{PieceEnd}
+use Rattle.mill_block.specs.declared.fault.NgcFault.{NgcFault}
+use Rattle.mill_block.specs.declared.fault.NgcFault.TheVariants.{WantOfMemory}
 use Rattle.mill_block.specs.declared.rules.Rules.{Rules}
 use Rattle.mill_ngc.specs.Pieces.{Reading, reading_at, lines_read, fed, MovesSoFar}
 use Rattle.mill_part.specs.Tops.{IsTop}
@@ -70,3 +72,8 @@ IsLow job part (Some height) = IsTop part height × (job.top <ℤ height)
 abbrev pub CoordinateFrom : LengthUnit → List ℕ → Coordinate → Result ℤ WordFault → Type 0
 CoordinateFrom unit word coordinate (Ok units) = read_as Exact unit word ≡ Ok units
 CoordinateFrom unit word coordinate (Err f) = (f.coordinate ≡ coordinate) × (read_as Exact unit word ≡ Err f.fault)
+
+-- it is no fault of a program's
+abbrev pub is_memory_fault : NgcFault → Bool
+is_memory_fault WantOfMemory = true
+is_memory_fault fault = false

@@ -4,7 +4,7 @@ ghost use Rattle.mill_base.specs.Ranges.{IsInUnitRange};
 use super::{HOME, point, told_fault, told_moves};
 use crate::tables::same;
 use mill_base::{Kind, Move, Pt3, Unit};
-use mill_ngc::{NgcFault, Reader, Rules};
+use mill_ngc::{NgcFault, Reader, Rules, Words};
 use mill_tables::{halves, with_bytes};
 use std::alloc::Global;
 use std::process::Abort;
@@ -20,16 +20,19 @@ const FINE_HOME: Pt3 = Pt3 {
 const ANYWHERE: Rules = Rules {
     from_anywhere: true,
     needs_spindle: false,
+    words: Words::Strict,
 };
 
 const SPINDLE: Rules = Rules {
     from_anywhere: false,
     needs_spindle: true,
+    words: Words::Strict,
 };
 
 const BOTH: Rules = Rules {
     from_anywhere: true,
     needs_spindle: true,
+    words: Words::Strict,
 };
 
 // The moves of a text, which is read in one piece.

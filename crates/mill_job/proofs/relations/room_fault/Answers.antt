@@ -1,4 +1,4 @@
-use Rattle.std.proofs.Common.{refl, sym}
+use Rattle.std.proofs.Common.{refl, sym, ◌∙◌}
 use Rattle.mill_job.specs.Documents.{slack_faults}
 use Rattle.mill_job.proofs.Faults.{first-found}
 use Rattle.mill_job.proofs.Room.{has_room}
@@ -12,4 +12,5 @@ pub returns-clause-none : goal.returns-clause-none
 returns-clause-none c = λ none. record {
   room = has_room c.args.job.now c.args.job.now.cutter (c.in_default.ensures.none refl) (c.if-has_low_clear.ensures.no refl) (c.if-not-clears_fixtures.ensures.yes refl);
   holder_room = c.if-has_close_holder.ensures.no refl;
+  away = sym c.starts_at_home.ensures ∙ c.if-starts_at_home.false;
 }

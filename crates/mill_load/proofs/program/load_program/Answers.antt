@@ -1,7 +1,8 @@
 use Rattle.std.proofs.Common.{rules, arith, Err, refl, sym, ◌∙◌}
-use Rattle.std.specs.Prelude.{◌≢◌}
+use Rattle.std.specs.Prelude.{◌≡◌, ◌≢◌, false}
 use Rattle.mill_block.specs.declared.fault.NgcFault.TheVariants.{WantOfMemory}
-use Rattle.mill_load.proofs.Programs.{no_text, file_moves, file_fault, moves_ok}
+use Rattle.mill_load.specs.inner.Steps.{is_memory_fault}
+use Rattle.mill_load.proofs.Programs.{is_other, no_text, file_moves, file_fault, moves_ok}
 use Rattle.mill_load.proofs.program.load_program.Goals as goal
 
 pub returns-in-Err-clause-told : goal.returns-in-Err-clause-told
@@ -24,7 +25,8 @@ returns-in-Ok-finish-clause-ready g c =
 
 pub returns : goal.returns
 returns g c =
-    let other : (c.finish.result ≢ Err WantOfMemory) = search rules in
+    let no : is_memory_fault c.in-Err-finish.fault ≡ false = search rules in
+    let other : (c.finish.result ≢ Err WantOfMemory) = is_other c.finish.result c.in-Err-finish.fault c.in-Err-finish.is no in
     record {
       told = λ contents held. (
         refl,

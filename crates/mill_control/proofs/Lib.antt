@@ -1,0 +1,10 @@
+pub mod Products
+pub mod Stored
+pub mod Nearest
+pub mod Near
+pub mod Depths
+pub mod Joining
+pub mod Sinking
+pub mod Counting
+pub mod Stages
+pub mod Going
