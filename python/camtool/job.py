@@ -337,6 +337,8 @@ def premises_of(job, premises):
         yield f"{named_at(premises.ups)} goes up, and to at least `clear` for this tool"
     if premises.changes and job.start == "change":
         yield f"M6 leaves the tip at or over `clear` (line {premises.changes[0]})"
+    if premises.high:
+        yield f"T and M6 leave a tip that was at or over `clear` there, with the new tool too (line {premises.high})"
     if premises.pecks:
         yield f"the control comes back down into a hole to {job.mm(job.peck_clearance)} over the depth before or higher (line {premises.pecks}): `peck_clearance`"
 

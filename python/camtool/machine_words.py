@@ -62,6 +62,7 @@ class Premises:
     lengths    the same of tool lengths, as "G43 H1", "G49" or FIRST
     ups        the words that go up to a place of the machine, "G53", "G28" and "G30"
     changes    the lines of T and M6
+    high       the first of these with the tip at or over the safe height before it, or None
     early      the line of a Z that is named before the first of these, or None
     pecks      the line of the first hole with stops on its way back down, or None
     stops      the lines of M0 and M1
@@ -69,7 +70,7 @@ class Premises:
 
     def __init__(self):
         self.zeros, self.lengths, self.ups, self.changes, self.stops = {}, {}, {}, [], []
-        self.early = self.pecks = None
+        self.high = self.early = self.pecks = None
 
 
 class Control:
@@ -261,6 +262,8 @@ class Reader:
         self.has_ended = 2 in line.stops or 30 in line.stops
         if "T" in line.values or 6 in line.stops:
             self.premises.changes.append(self.line)
+            if self.height == HIGH and self.premises.high is None:
+                self.premises.high = self.line
             self.is_late = self.is_late or self.has_named
             self.forget(True)
         self.settle_spindle(line)

@@ -81,6 +81,7 @@ class Telling(unittest.TestCase):
         whole = told("G21 G90\nM6\nG54 G43 H1\nG0 Z8\nX1 Y1\nG99 G83 X1 R5 Z3 Q1\nG0 G53 Z0\nM2\n", start="change")
         for wanted in ("G54 (line 4)", "G43 H1 (line 4)", "M6 leaves the tip at or over `clear`", "0.25 mm over the depth before or higher (line 6)", "G53 (line 7) goes up"):
             self.assertIn(wanted, whole)
+        self.assertIn("leave a tip that was at or over `clear` there, with the new tool too (line 3)", told("G21 G90\nG53 G0 Z0\nT1 M6\nM2\n"))
         self.assertIn("one tool length", told(f"{HEAD}M2\n", lengths="one"))
 
     def test_the_word_at_fault(self):

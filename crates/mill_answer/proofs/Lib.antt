@@ -7,3 +7,4 @@ pub mod Answering
 pub mod Named
 pub mod OneJudgments
 pub mod Margins
+pub mod ByText

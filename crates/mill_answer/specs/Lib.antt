@@ -4,5 +4,6 @@ pub mod Statuses
 pub mod Printed
 pub mod Prints
 pub mod Calls
+pub mod ByText
 pub mod Verify
 pub mod Judgments

@@ -17,6 +17,7 @@ use Rattle.mill_verify.specs.declared.verdict.Verdict.{Verdict}
 use Rattle.mill_verify.specs.declared.verdict.Verdict.TheVariants.{Accept, Reject}
 use Rattle.mill_verify.specs.declared.verdict.Reason.{Reason}
 use Rattle.mill_verify.specs.declared.verdict.Reason.TheVariants.{Floor, Gouge, Holder, Fixture, HolderFixture, Rapid as RapidCut, Cut, HolderStock, Left}
+use Rattle.mill_answer.specs.ByText.{MayGoByText}
 use Rattle.mill_answer.specs.Lines.{line}
 use Rattle.mill_load.specs.declared.file.File.{File}
 use Rattle.mill_load.specs.declared.file.File.TheVariants.{Program as ProgramFile}
@@ -107,7 +108,8 @@ pub record Judges (texts : Texts) (job : JobFields) (part : List Tri) (moves : L
   pub named : IsNamed job part moves verdict
 
 -- each file, if it holds what the reads gave, reads as this job, this part and these moves, which are in their ranges, and the moves are safe; wherever the tool's tip is before them, straight up or down
--- and across it comes safely to the place where they begin, if it is free where it stands and starts at or over the clear height, or is raised
+-- and across it comes safely to the place where they begin, if it is free where it stands and starts at or over the clear height, or is raised; in machines' words,
+-- a tip near the way of the program's own numbers is a real one, and what the machine does beside lies at or over the clear height, or over a place of that way
 pub record AcceptsSafely (call : Call) (files : Files) : Type 0 where
   pub job : JobFields
   pub part : List Tri
@@ -117,6 +119,7 @@ pub record AcceptsSafely (call : Call) (files : Files) : Type 0 where
   pub moves_ok : AreMoves job moves
   pub start : StartsSafely job part moves_ok.follow.from
   pub safe : CutsSafely job part moves
+  pub by_text : (contents : List ℕ → Option (List ℕ)) → HoldsReads contents call → MayGoByText job (contents files.program) moves
 
 -- ---- how it is shown
 

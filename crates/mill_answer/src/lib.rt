@@ -7,7 +7,8 @@
 //! `one_judgment` is the law that three files that are told are judged in one way.
 //! Definitions: `specs/Lines` of a line by its words, `specs/Faults`, `specs/Printed` and
 //! `specs/Statuses` of lines and statuses, `specs/Prints` of telling, `specs/Calls` of a call as the
-//! outside sees it, `specs/Verify` of a verdict on files, `specs/Judgments` of the law.
+//! outside sees it, `specs/Verify` of a verdict on files, `specs/ByText` of what it says by a
+//! program's own numbers, `specs/Judgments` of the law.
 #![tactic(auto)]
 
 mod faults;

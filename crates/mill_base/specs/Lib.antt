@@ -2,6 +2,7 @@ pub mod Numbers
 pub mod Points
 pub mod Cutters
 pub mod Motion
+pub mod Rounded
 pub mod Contact
 pub mod Sizes
 pub mod Solids

@@ -4,6 +4,8 @@ mod SettledLemmas
 mod PlainLemmas
 mod QuickLemmas
 mod PercentLemmas
+mod RealLemmas
+pub mod RealLines
 mod RiseCerts
 pub mod RiseLemmas
 mod TakesLemmas
@@ -11,3 +13,9 @@ mod ToldLemmas
 pub mod KeptLemmas
 pub mod NamingLemmas
 pub mod HoleLemmas
+pub mod TextLemmas
+mod TextWays
+pub mod TextHoles
+mod TextLines
+mod TextFits
+pub mod TextKept

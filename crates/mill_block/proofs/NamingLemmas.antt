@@ -5,11 +5,11 @@ use Rattle.std.specs.Prelude.{ℤ, ◌≤ℤ◌, ◌⊎◌, ◌||◌, ◌&&◌, 
 use Rattle.mill_base.specs.Units.{greatest_of}
 use Rattle.mill_base.specs.declared.points.Pt3.{Pt3}
 use Rattle.mill_words.specs.declared.word.Num.{Num}
-use Rattle.mill_control.specs.Lengths.{is_whole, rounded}
+use Rattle.mill_control.specs.Lengths.{rounded}
 use Rattle.mill_control.specs.Places.{across_allows, allows, height_allows, hole_allows, is_high, is_known, is_under, low_allows}
 use Rattle.mill_control.specs.declared.place.Naming.{Naming}
 use Rattle.mill_control.specs.declared.place.Place.{Place}
-use Rattle.mill_block.specs.MachineLines.{coordinate_for, naming_of, place_in, place_of, target_for, units_for}
+use Rattle.mill_block.specs.MachineLines.{coordinate_for, is_taken, naming_of, place_in, place_of, target_for, units_for}
 use Rattle.mill_block.specs.MachineSettings.{per_of}
 use Rattle.mill_block.specs.Motion.{known_of}
 use Rattle.mill_block.specs.declared.fault.NgcFault.{NgcFault}
@@ -30,7 +30,7 @@ rounded-by true false f g w z e = cc
 
 pub units-are : (c : Control) (p : Progress) (n : Num) (z : ℤ) → units_for c p n ≡ Ok z → rounded (per_of p) n ≡ z
 units-are c p n z e =
-    rounded-by (c.rounds || is_whole (per_of p) n) (nat_lt (greatest_of p.unit) (nat_abs (rounded (per_of p) n))) (fault.OffGrid p.line) (fault.OutOfRange p.line) (rounded (per_of p) n) z e
+    rounded-by (is_taken c.rounds (per_of p) n) (nat_lt (greatest_of p.unit) (nat_abs (rounded (per_of p) n))) (fault.OffGrid p.line) (fault.OutOfRange p.line) (rounded (per_of p) n) z e
 
 -- ---- its z
 

@@ -10,4 +10,6 @@ pub mod MachineSettings
 pub mod MachineLines
 pub mod Lines
 pub mod Kept
+pub mod TextPaths
+pub mod RealWays
 pub mod inner

@@ -1,5 +1,5 @@
 -- What a line of a program for a machine does: its checks in their order, and its moves.
-use Rattle.std.specs.Prelude.{ℤ, pos, ◌+◌, List, [], length, replicate, Option, Some, None, is_some, option_map, Result, Ok, Err, ⊤, Bool, true, false, not, ◌&&◌, ◌||◌, ◌==◌, nat_le, nat_lt, nat_abs, int_le, if◌then◌else◌}
+use Rattle.std.specs.Prelude.{ℕ, ℤ, pos, ◌+◌, List, [], length, replicate, Option, Some, None, is_some, option_map, Result, Ok, Err, ⊤, Bool, true, false, not, ◌&&◌, ◌||◌, ◌==◌, nat_le, nat_lt, nat_abs, int_le, if◌then◌else◌}
 use Rattle.mill_base.specs.Numbers.{greater}
 use Rattle.mill_base.specs.Units.{greatest_of}
 use Rattle.mill_base.specs.declared.limits.TheConstants.{MAX_MOVES}
@@ -138,10 +138,14 @@ machine_behind p s m = record m {
   has_named = m.has_named || not (is_before_tool p (naming_of p s));
 }
 
+-- a control takes this number: any, where it rounds, and else a whole number of units
+abbrev pub is_taken : Bool → ℕ → Num → Bool
+is_taken rounds per n = rounds || is_whole per n
+
 -- a number in units: rounded, or a fault where nothing is rounded
 abbrev pub units_for : Control → Progress → Num → Result ℤ NgcFault
 units_for c p n =
-    if not (c.rounds || is_whole (per_of p) n) then Err (fault.OffGrid p.line) else
+    if not (is_taken c.rounds (per_of p) n) then Err (fault.OffGrid p.line) else
     (if nat_lt (greatest_of p.unit) (nat_abs (rounded (per_of p) n)) then Err (fault.OutOfRange p.line) else Ok (rounded (per_of p) n))
 
 abbrev pub coordinate_for : Control → Progress → ℤ → Option Num → Result ℤ NgcFault
@@ -185,7 +189,7 @@ returns_or (Some r) = r
 
 abbrev pub peck_fits : Control → Progress → Option Num → Result ⊤ NgcFault
 peck_fits c p None = Ok tt
-peck_fits c p (Some n) = if not (c.rounds || is_whole (per_of p) n) then Err (fault.OffGrid p.line) else Ok tt
+peck_fits c p (Some n) = if not (is_taken c.rounds (per_of p) n) then Err (fault.OffGrid p.line) else Ok tt
 
 abbrev pub hole_of : Control → Progress → Series → ℤ → ℤ → ℤ → Hole
 hole_of c p v x y top = record { from = p.here; x = x; y = y; cycle = v.cycle; r = number_or v.r; z = number_or v.z; q = v.q; unit = p.unit; lengths = lengths_of p; peck_clearance = pos c.peck_clearance; end = hole_z v.level (returns_or p.machine.returns) top }

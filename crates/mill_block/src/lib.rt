@@ -11,6 +11,8 @@
 //! A program for a machine may have more words, which `specs/MachineTable.antt`,
 //! `specs/MachineTakes.antt`, `specs/MachineSaid.antt`, `specs/MachineSettings.antt` and
 //! `specs/MachineLines.antt` tell of in the same way, over the tables of `mill_control`.
+//! `specs/TextPaths.antt` has where such a line leads by its own numbers, before they are rounded,
+//! and `specs/RealWays.antt` where a machine goes on it, wherever its tip is before.
 #![tactic(auto)]
 
 mod fault;

@@ -32,6 +32,10 @@ is_next_listed s = is_listed s.calls s.fails.items
 abbrev pub room_left : Room → ℕ
 room_left r = r.capacity - length r.bytes.items
 
+-- as many bytes of a piece as there is room for
+abbrev pub taken_of : Room → List ℕ → ℕ
+taken_of r piece = if nat_lt (room_left r) (length piece) then room_left r else length piece
+
 -- a piece that isn't empty finds no room left
 abbrev pub finds_no_room : Room → List ℕ → Bool
 finds_no_room r piece = nat_lt 0 (length piece) && (room_left r == 0)
@@ -49,9 +53,21 @@ shelf_script s = s.script
 abbrev pub shelf_capacity : MemShelf → ℕ
 shelf_capacity s = s.out.capacity
 
+-- as many bytes of a piece as a sink's or a shelf's written file has room for
+abbrev pub sink_takes : MemSink → List ℕ → ℕ
+sink_takes s piece = taken_of s.out piece
+
+abbrev pub shelf_takes : MemShelf → List ℕ → ℕ
+shelf_takes s piece = taken_of s.out piece
+
 -- the name of a shelf's written file
 abbrev pub out_name_of : MemShelf → List ℕ
 out_name_of s = s.out_name.items
+
+-- the same file can be written, and hold as much
+pub record SameOutFile (old new : MemShelf) : Type 0 where
+  pub name_stays : out_name_of new ≡ out_name_of old
+  pub capacity_stays : shelf_capacity new ≡ shelf_capacity old
 
 -- the bytes of the first file of a name
 abbrev pub find_file : List ℕ → List MemFile → Option (List ℕ)

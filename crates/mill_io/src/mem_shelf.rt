@@ -2,7 +2,7 @@ ghost use Rattle.std.specs.Prelude.{◌≡◌, ◌<◌, ◌≤◌, [], ◌∷◌
 ghost use Rattle.std.specs.Option.{option_copied};
 ghost use Rattle.mill_io.specs.Causes.{HasCause};
 ghost use Rattle.mill_io.specs.Contents.{GivesFrom, Appended, AppendedPart, Emptied};
-ghost use Rattle.mill_io.specs.Memory.{HoldsFiles, IsFresh, CountsCall, contents_of, find_file, out_name_of, shelf_capacity, shelf_script, shelf_view, read_fails, create_fails, append_fails};
+ghost use Rattle.mill_io.specs.Memory.{HoldsFiles, IsFresh, CountsCall, SameOutFile, contents_of, find_file, out_name_of, shelf_capacity, shelf_script, shelf_takes, shelf_view, read_fails, create_fails, append_fails};
 ghost use Rattle.mill_io.specs.Readings.{reading_of};
 ghost use Rattle.mill_io.specs.Views.{ReadsOnly, WritesOnly};
 
@@ -123,6 +123,7 @@ impl Shelf for MemShelf {
         // Which reads fail, and that each call is counted.
         ensures fails { is_err result ≡ read_fails self.old name.now }
         ensures counts { CountsCall (shelf_script self.old) (shelf_script self.new) }
+        ensures keeps { SameOutFile self.old self.new }
     {
         if !self.script.fails_now() {
             if let Some(bytes) = self.find(name.as_bytes()) {
@@ -146,6 +147,7 @@ impl Shelf for MemShelf {
         ensures fails { is_err result ≡ create_fails self.old name.now }
         ensures told { IfOk result (λ _. contents_of self.new name.now ≡ Some []) }
         ensures counts { CountsCall (shelf_script self.old) (shelf_script self.new) }
+        ensures keeps { SameOutFile self.old self.new }
     {
         if !self.script.fails_now() && name.as_bytes() == self.out_name.as_slice() {
             self.out.clear();
@@ -167,9 +169,11 @@ impl Shelf for MemShelf {
         ensures cause { HasCause self.old.write_faults self.new.write_faults result }
         ensures unread { (shelf_view self.new).log ≡ (shelf_view self.old).log }
 
-        // Which appends fail, and that each call is counted.
+        // How much is taken, which appends fail, and that each call is counted.
+        ensures takes { IfOk result (λ n. n ≡ shelf_takes self.old bytes.now) }
         ensures fails { is_err result ≡ append_fails self.old name.now bytes.now }
         ensures counts { CountsCall (shelf_script self.old) (shelf_script self.new) }
+        ensures keeps { SameOutFile self.old self.new }
     {
         if !self.script.fails_now() && name.as_bytes() == self.out_name.as_slice() {
             if let Some(count) = self.out.add(bytes) {

@@ -1,5 +1,5 @@
 ghost use Rattle.std.specs.Prelude.{◌≡◌, ◌<◌, ◌≤◌, [], Some, length, take, is_err, IfOk, OnErr};
-ghost use Rattle.mill_io.specs.Memory.{IsFresh, CountsCall, sink_capacity, sink_script, sink_view, write_fails};
+ghost use Rattle.mill_io.specs.Memory.{IsFresh, CountsCall, sink_capacity, sink_script, sink_takes, sink_view, write_fails};
 ghost use Rattle.mill_io.specs.Views.{IsWritten, IsPartWritten};
 
 use crate::room::Room;
@@ -53,7 +53,9 @@ impl Sink for MemSink {
         ensures part { OnErr result (
             IsPartWritten bytes.now (sink_view self.old) (sink_view self.new)) }
 
-        // Which writes fail, and that each is counted.
+        // How much is taken, which writes fail, and that each is counted.
+        ensures takes { IfOk result (λ n. n ≡ sink_takes self.old bytes.now) }
+        ensures capacity { sink_capacity self.new ≡ sink_capacity self.old }
         ensures fails { is_err result ≡ write_fails self.old bytes.now }
         ensures counts { CountsCall (sink_script self.old) (sink_script self.new) }
     {

@@ -12,7 +12,7 @@ pub(crate) struct Room {
 }
 
 impl Room {
-    ghost use Rattle.mill_io.specs.Memory.{finds_no_room};
+    ghost use Rattle.mill_io.specs.Memory.{finds_no_room, taken_of};
 
     /// Takes memory for `capacity` bytes, none of which is there yet.
     pub(crate) fn new(alloc: Global, capacity: usize) -> Result<Room, WantOfMemory>
@@ -63,6 +63,7 @@ impl Room {
         ensures none { is_none result ≡ finds_no_room self.old piece.now }
         ensures within { IfSome result (λ n. n ≤ length piece.now) }
         ensures some { 0 < length piece.now → IfSome result (λ n. 0 < n) }
+        ensures takes { IfSome result (λ n. n ≡ taken_of self.old piece.now) }
         ensures added { IfSome result (λ n. self.new.bytes.items ≡ self.old.bytes.items ++ take n piece.now) }
         ensures same { IfNone result (self.new.bytes.items ≡ self.old.bytes.items) }
         ensures capacity { self.new.capacity ≡ self.old.capacity }

@@ -9,5 +9,5 @@
 mod laws;
 mod margin;
 
-pub use laws::{grown_holds, inside_is_held, shrunk_is_held};
+pub use laws::{grown_holds, inside_is_held, near_bent_is_near, near_text_is_near, shrunk_is_held};
 pub use margin::{MAX_MARGIN, grown, offset, shrunk};

@@ -87,7 +87,7 @@ goes_framed Unknown p = goes_none (known_of p) p.here p.clear p.rules (in_frame 
 goes_framed Framed p = goes_none (known_of p) p.here p.clear p.rules (in_frame Framed p) refl refl refl refl
 goes_framed Plain p = goes_none (known_of p) p.here p.clear p.rules (in_frame Plain p) refl refl refl refl
 
-goes_line : (p : Progress) (line : List ℕ) → Goes (known_of p) p.here p.clear p.rules (after_line p line)
+pub goes_line : (p : Progress) (line : List ℕ) → Goes (known_of p) p.here p.clear p.rules (after_line p line)
 unfolding after_line
 goes_line p line =
     let begun : Progress = line_begun p in

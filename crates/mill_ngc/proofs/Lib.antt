@@ -19,3 +19,5 @@ mod Moves
 mod LineEnds
 mod Ends
 mod WalkLemmas
+pub mod TextProgram
+pub mod RealProgram

@@ -1,4 +1,6 @@
 pub mod Programs
+pub mod TextPaths
+pub mod RealWays
 pub mod Pieces
 pub mod Texts
 pub mod Writing

@@ -21,6 +21,7 @@ use Rattle.mill_report_run.specs.Outcomes.{AreTextsOf, AsksFor, HasOutcome, IsOu
 use Rattle.mill_report_run.specs.Words.{RefusesWords, Request, ShowsHelp, is_taken, request}
 use Rattle.mill_report_run.specs.Reports.{Agree, AreFailing, IsReport, Texts}
 use Rattle.mill_answer.proofs.Answering.{HasVerdict, is_judged}
+use Rattle.mill_answer.proofs.ByText.{may_go_by_text}
 use Rattle.mill_answer.proofs.Counts.{no, on}
 use Rattle.mill_answer.specs.Judgments.{judged, unfit}
 use Rattle.mill_answer.specs.Calls.{Call, HoldsReads, NoFault}
@@ -85,6 +86,7 @@ module _ (call : Call) (files : Files) (r : Reported) (is : (contents : List ℕ
     all_read = λ contents held. all_read (texts_of contents files) r.texts r.job r.part r.moves (is contents held).agree d.all_read;
     start = law r.job r.part moves_ok.follow.from job_ok d.all_read.under moves_ok.follow.over;
     safe = d.safe;
+    by_text = λ contents held. may_go_by_text r.job (contents files.program) r.moves job_ok (all_read (texts_of contents files) r.texts r.job r.part r.moves (is contents held).agree d.all_read).moves_are;
   }
   accepts_by law (Reject reason) document d e = absurd (no 0 3 (omega arith) e)
 

@@ -1,6 +1,7 @@
 -- What status 0 and status 3 mean.
-use Rattle.std.proofs.Common.{◌≡◌, ◌≢◌, ℕ, false, List, Option, refl, sym, ap, subst, ◌∙◌, arith}
+use Rattle.std.proofs.Common.{◌≡◌, ◌≢◌, ℕ, false, List, [], ◌∷◌, Option, refl, sym, ap, subst, ◌∙◌, arith}
 use Rattle.std.specs.Prelude.{ℤ, ◌≤ℤ◌, All, map, Ok}
+use Rattle.std.specs.List.{AllZip}
 use Rattle.std.proofs.lemmas.Int.{ints}
 use Rattle.std.proofs.lemmas.List.Elements.{All-weaker}
 use Rattle.mill_command.specs.Requests.{verify, plan, stock, rest}
@@ -11,6 +12,7 @@ use Rattle.mill_base.specs.Covers.{IsUnder}
 use Rattle.mill_job.specs.Columns.{home}
 use Rattle.mill_job.specs.Jobs.{IsJob}
 use Rattle.mill_job.specs.declared.fields.JobFields.{JobFields}
+use Rattle.mill_job.specs.declared.step.Step.{Step}
 use Rattle.mill_job.proofs.WithCutter.{is_job_with}
 use Rattle.mill_plan.specs.Plans.{IsDone, done, too_many_nodes, too_many_moves, uncut, held as holder_stops}
 use Rattle.mill_verify.specs.Files.{File as CutFile, IsFileOf, job_of}
@@ -23,13 +25,14 @@ use Rattle.mill_run.specs.Answers.{Answer, refused_word, unfit, judged, planned,
 use Rattle.mill_answer.specs.Calls.{Call, HoldsReads}
 use Rattle.mill_run.specs.Outcomes.{Stores, HasOutcome}
 use Rattle.mill_answer.specs.Verify.{AcceptsSafely, Judges, texts_of, verdict_status, Files}
-use Rattle.mill_run.specs.Headline.{RejectsFirst, Headline, StoresSafely, PlanHeadline, StoresStock, StockHeadline, AcceptsFilesSafely, RejectsFilesFirst, BeginsSafely, RestHeadline}
+use Rattle.mill_run.specs.Headline.{RejectsFirst, Headline, StoresSafely, PlanHeadline, StoresStock, StockHeadline, AcceptsFilesSafely, RejectsFilesFirst, BeginsSafely, RestHeadline, StepGoesByText}
 use Rattle.mill_run.specs.Plan.{Plans, plan_line}
-use Rattle.mill_run.specs.Rest.{JudgesFiles, rest_texts, list_status}
+use Rattle.mill_run.specs.Rest.{JudgesFiles, ReadsSteps, rest_texts, list_status}
 use Rattle.mill_load.specs.Setup.{setup_texts}
 use Rattle.mill_run.specs.Stock.{stock_texts, stock_line, drawn, too_many_triangles, DrawsStock}
 use Rattle.mill_run.specs.Words.{PlanFiles, StockFiles, RestFiles}
 use Rattle.mill_run.proofs.Answering.{is_judged, is_judged_in_turn}
+use Rattle.mill_answer.proofs.ByText.{may_go_by_text}
 use Rattle.mill_answer.proofs.Counts.{no, on}
 use Rattle.mill_ngc.specs.Pieces.{FollowOn}
 use Rattle.mill_ngc.specs.Programs.{program_of}
@@ -63,6 +66,7 @@ module _ (law : StartIsSafe) (call : Call) (files : Files) (workers : ℕ) (own 
         moves_ok = here.moves_ok;
         start = law job part here.moves_ok.follow.from here.job_ok here.all_read.setup_is.under here.moves_ok.follow.over;
         safe = here.safe;
+        by_text = λ contents held. may_go_by_text job (contents files.program) moves here.job_ok (is contents held).all_read.moves_are;
       }
   accepts_by (judged job part moves (Reject reason)) is e = absurd (on 3 0 (omega arith) e)
   accepts_by (planned j p name answer) is e = absurd (is call.store.contents own)
@@ -233,6 +237,13 @@ begin_safely law job part files ok under are = All-weaker (IsFileOf job) (Begins
       start = law (job_of job file) part is.follow.from (is_job_with job file.cutter ok is.fits) under is.follow.over;
     }
 
+-- and its machine may go by its text
+go_by_texts : (programs : List ℕ → Option (List ℕ)) (job : JobFields) → IsJob job → (steps : List Step) (files : List CutFile) → ReadsSteps programs job steps files → AllZip (StepGoesByText programs job) steps files
+go_by_texts programs job ok [] [] read = tt
+go_by_texts programs job ok (step ∷ steps) (file ∷ files) read = (may_go_by_text job (programs step.program) file.moves ok read.0.moves_are, go_by_texts programs job ok steps files read.1)
+go_by_texts programs job ok [] (file ∷ files) read = absurd read
+go_by_texts programs job ok (step ∷ steps) [] read = absurd read
+
 module _ (law : StartIsSafe) (call : Call) (names : RestFiles) (workers : ℕ) (own : HoldsReads call.store.contents call) where
   accepts_in_turn : (a : Answer) → ((contents : List ℕ → Option (List ℕ)) → HoldsReads contents call → IsAnswer contents (rest names.job names.part names.list workers) a) → answer_status a ≡ 0
       → AcceptsFilesSafely call names
@@ -255,6 +266,7 @@ module _ (law : StartIsSafe) (call : Call) (names : RestFiles) (workers : ℕ) (
         files_ok = here.files_ok;
         starts = begin_safely law job part files here.job_ok here.all_read.setup_is.under here.files_ok;
         safe = here.safe;
+        by_texts = λ contents held. go_by_texts contents job here.job_ok steps files (is contents held).all_read.files_are;
       }
   accepts_in_turn (judged_files job part steps files (list.Reject file reason)) is e = absurd (on 3 0 (omega arith) e)
   accepts_in_turn (judged_files job part steps files (list.Left row column top)) is e = absurd (on 3 0 (omega arith) e)

@@ -1,5 +1,6 @@
 -- What one call of the program means. What is said of files is said of whatever they hold, if they hold what the reads gave: `contents` tell of each name what its file holds, or nothing.
 -- What the store itself tells holds that too (`held` of HasOutcome).
+use Rattle.std.specs.List.{AllZip}
 use Rattle.std.specs.Prelude.{◌⊎◌, ◌≡◌, ◌≢◌, ℕ, ℤ, true, false, List, length, All, IsSome, Option, Some}
 use Rattle.mill_io.specs.Views.{IsWritten, IsStored}
 use Rattle.mill_base.specs.declared.points.Tri.{Tri}
@@ -25,6 +26,7 @@ use Rattle.mill_verify.specs.declared.verdict.Verdict.TheVariants.{Accept, Rejec
 use Rattle.mill_verify.specs.declared.verdict.Reason.{Reason}
 use Rattle.mill_job.specs.declared.fields.Place.{Place}
 use Rattle.mill_run.specs.Answers.{Answer, IsAnswer, answer_status, answer_line, answer_file}
+use Rattle.mill_answer.specs.ByText.{MayGoByText}
 use Rattle.mill_answer.specs.Calls.{Call, HoldsReads, NoFault}
 use Rattle.mill_run.specs.Outcomes.{Stores}
 use Rattle.mill_load.specs.Loads.{AreMoves}
@@ -165,6 +167,10 @@ pub record BeginsSafely (job : JobFields) (part : List Tri) (file : CutFile) : T
   pub follow : Follow from file.moves
   pub start : StartsSafely (job_of job file) part from
 
+-- what is promised of a machine that goes by the numbers of the step's program
+abbrev pub StepGoesByText : (List ℕ → Option (List ℕ)) → JobFields → Step → CutFile → Type 0
+StepGoesByText programs job step file = MayGoByText job (programs step.program) file.moves
+
 -- each file, if it holds what the reads gave, reads as this job, this part, these steps and these files, which are in their ranges, and the files begin and cut safely in turn, each with its step's cutter
 pub record AcceptsFilesSafely (call : Call) (names : RestFiles) : Type 0 where
   pub job : JobFields
@@ -176,6 +182,7 @@ pub record AcceptsFilesSafely (call : Call) (names : RestFiles) : Type 0 where
   pub files_ok : All (IsFileOf job) files
   pub starts : All (BeginsSafely job part) files
   pub safe : FilesCutSafely job part files
+  pub by_texts : (contents : List ℕ → Option (List ℕ)) → HoldsReads contents call → AllZip (StepGoesByText contents job) steps files
 
 -- each file, if it holds what the reads gave, reads as this job, this part, these steps and these files, which are in their ranges, the verdict on them is this rejection, and the line names it;
 -- a leaf that it names is one of the last of its move, and blocked

@@ -15,6 +15,7 @@ mod Hits
 pub mod Obstacles
 mod Safe
 mod Plain
+pub mod TextTips
 mod Between
 mod Accepted
 mod Scanning

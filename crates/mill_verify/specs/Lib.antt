@@ -7,6 +7,7 @@ pub mod Reasons
 pub mod Claims
 pub mod Starts
 pub mod Plain
+pub mod TextTips
 pub mod Between
 pub mod Files
 pub mod Lists

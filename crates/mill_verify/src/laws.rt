@@ -2,6 +2,7 @@ ghost use Rattle.mill_verify.specs.Between.{BetweenIsSafe};
 ghost use Rattle.mill_verify.specs.Lists.{AloneIsVerdict, OneListVerdict};
 ghost use Rattle.mill_verify.specs.Plain.{PlainIsPlain};
 ghost use Rattle.mill_verify.specs.Starts.{StartIsSafe};
+ghost use Rattle.mill_verify.specs.TextTips.{TextTipIsReal};
 ghost use Rattle.mill_verify.specs.Verdicts.{OneVerdict};
 
 /// A job, a part and a list of moves have at most one verdict.
@@ -51,4 +52,16 @@ pub fn between_is_safe()
 /// begins is what its program's first two lines say. It has no code, as [`one_verdict`].
 pub fn start_is_safe()
     ensures { StartIsSafe }
+{}
+
+/// A machine that goes by a text's own numbers, and whose tip stays within what rounding leaves of
+/// the slack of where it may be on such a way, has a real tip of the move with the rounded ends.
+///
+/// Rounding takes three units of the slack, and nothing where nothing is rounded. The way and the
+/// move are each as the job's machine makes them: where it runs each axis of a rapid for itself, a
+/// rapid along two axes or more is a dogleg, whose tip may be anywhere in the box of its own ends.
+/// So what is promised at each real tip is promised of such a machine. It has no code, as
+/// [`one_verdict`].
+pub fn text_tip_is_real()
+    ensures { TextTipIsReal }
 {}

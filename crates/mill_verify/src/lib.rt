@@ -6,8 +6,9 @@
 //! an accepted program cuts safely at every fraction of every move; and that a rejected move is
 //! blocked at the leaf that is named. Definitions: `specs/Tests`, `specs/Fixtures`,
 //! `specs/Verdicts`, `specs/Claims`; of programs in turn `specs/Files`, `specs/Lists`,
-//! `specs/ListClaims`. Blocks of moves and rows of the stock are pieces of one work that a crew
-//! shares (`work`, `crew`).
+//! `specs/ListClaims`; of the way to the first place `specs/Starts`, of a machine that goes by
+//! a text's own numbers `specs/TextTips`. Blocks of moves and rows of the stock are pieces of one
+//! work that a crew shares (`work`, `crew`).
 #![tactic(auto)]
 
 mod block;
@@ -35,7 +36,8 @@ pub use file::CutFile;
 pub use fixture::FixtureHit;
 pub use floor::is_over_floor;
 pub use laws::{
-    alone_is_verdict, between_is_safe, one_list_verdict, one_verdict, plain_is_plain, start_is_safe,
+    alone_is_verdict, between_is_safe, one_list_verdict, one_verdict, plain_is_plain,
+    start_is_safe, text_tip_is_real,
 };
 pub use list::{ListVerdict, MAX_FILES, verify_list};
 pub use program::{verdict_on_stock, verify};
