@@ -9,7 +9,7 @@ use Rattle.mill_base.specs.Covers.{IsUnder}
 use Rattle.mill_part.specs.Tops.{IsTop, HasCornerAt}
 use Rattle.mill_stl.specs.Parts.{Part}
 use Rattle.mill_stl.specs.declared.fault.StlFault.{StlFault}
-use Rattle.mill_block.specs.declared.fault.NgcFault.{NgcFault}
+use Rattle.mill_said.specs.declared.fault.NgcFault.{NgcFault}
 use Rattle.mill_job.specs.declared.fields.JobFields.{JobFields}
 use Rattle.mill_job.specs.declared.fault.JobFault.{JobFault}
 use Rattle.mill_job.proofs.OneAnswer.{one_answer}

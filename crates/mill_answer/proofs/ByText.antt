@@ -11,7 +11,7 @@ use Rattle.mill_base.specs.declared.points.Pt3.{Pt3}
 use Rattle.mill_margin.specs.Nearby.{IsTipNear, rounding_margin}
 use Rattle.mill_ngc.proofs.RealProgram.{program_is_foreseen}
 use Rattle.mill_ngc.proofs.TextProgram.{program_is_rounded}
-use Rattle.mill_block.specs.declared.rules.Words.TheVariants as dialect
+use Rattle.mill_said.specs.declared.rules.Words.TheVariants as dialect
 use Rattle.mill_job.specs.Columns.{home}
 use Rattle.mill_job.specs.Habits.{made_by, run_by}
 use Rattle.mill_job.specs.Jobs.{IsJob}

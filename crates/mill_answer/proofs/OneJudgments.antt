@@ -4,7 +4,7 @@ use Rattle.std.specs.Prelude.{ℤ, ◌≤ℤ◌, IfSome, IsSome}
 use Rattle.std.proofs.lemmas.Int.{ints}
 use Rattle.mill_base.specs.declared.motion.Move.{Move}
 use Rattle.mill_base.specs.declared.points.Tri.{Tri}
-use Rattle.mill_block.specs.declared.fault.NgcFault.{NgcFault}
+use Rattle.mill_said.specs.declared.fault.NgcFault.{NgcFault}
 use Rattle.mill_job.proofs.OneAnswer.{one_answer}
 use Rattle.mill_job.specs.declared.fault.JobFault.{JobFault}
 use Rattle.mill_job.specs.declared.fields.JobFields.{JobFields}

@@ -14,8 +14,8 @@ use Rattle.mill_decimal.specs.declared.fault.DecFault.{DecFault}
 use Rattle.mill_decimal.specs.declared.fault.DecFault.TheVariants as decimal_fault
 use Rattle.mill_stl.specs.declared.fault.StlFault.{StlFault}
 use Rattle.mill_stl.specs.declared.fault.StlFault.TheVariants as part_fault
-use Rattle.mill_block.specs.declared.fault.NgcFault.{NgcFault}
-use Rattle.mill_block.specs.declared.fault.NgcFault.TheVariants as program_fault
+use Rattle.mill_said.specs.declared.fault.NgcFault.{NgcFault}
+use Rattle.mill_said.specs.declared.fault.NgcFault.TheVariants as program_fault
 use Rattle.mill_job.specs.Keys.{name_of}
 use Rattle.mill_job.specs.declared.fault.JobFault.{JobFault}
 use Rattle.mill_job.specs.declared.fault.JobFault.TheVariants as job_fault

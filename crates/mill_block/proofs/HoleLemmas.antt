@@ -25,13 +25,13 @@ use Rattle.mill_control.specs.Drilled.{FitsSeries}
 use Rattle.mill_block.specs.Kept.{Adds, begins}
 use Rattle.mill_block.specs.MachineLines.{coordinate_for, drilled, hole_for, hole_of, hole_z, peck_fits, returns_or}
 use Rattle.mill_block.specs.MachineSettings.{per_of}
-use Rattle.mill_block.specs.Said.{◌>>=◌}
-use Rattle.mill_block.specs.declared.fault.NgcFault.{NgcFault}
-use Rattle.mill_block.specs.declared.machine_said.MachineSaid.{MachineSaid}
+use Rattle.mill_said.specs.Said.{◌>>=◌}
+use Rattle.mill_said.specs.declared.fault.NgcFault.{NgcFault}
+use Rattle.mill_said.specs.declared.machine_said.MachineSaid.{MachineSaid}
 use Rattle.mill_block.specs.Motion.{known_of}
 use Rattle.mill_block.specs.declared.progress.Known.TheVariants.{All}
 use Rattle.mill_block.specs.declared.progress.Progress.{Progress}
-use Rattle.mill_block.specs.declared.rules.Control.{Control}
+use Rattle.mill_said.specs.declared.rules.Control.{Control}
 use Rattle.mill_block.proofs.NamingLemmas.{units-are}
 use Rattle.mill_block.proofs.RiseLemmas.{at_most}
 

@@ -22,16 +22,16 @@ use Rattle.mill_words.specs.Words.{Line, is_blank as is_blank_line}
 use Rattle.mill_block.specs.MachineLines.{Done, above_of, acts_by, arrived, gone_to, machine_behind, names_by, names_height, naming_of, parks, place_of, rise, still_at, with_place, with_stop}
 use Rattle.mill_block.specs.MachineSettings.{has_lengths, settled_for}
 use Rattle.mill_block.specs.Motion.{known_of}
-use Rattle.mill_block.specs.Said.{◌>>=◌}
+use Rattle.mill_said.specs.Said.{◌>>=◌}
 use Rattle.mill_block.specs.declared.machine.Machine.{Machine}
-use Rattle.mill_block.specs.declared.machine_said.MachineSaid.{MachineSaid}
+use Rattle.mill_said.specs.declared.machine_said.MachineSaid.{MachineSaid}
 use Rattle.mill_block.specs.declared.progress.Known.{Known}
 use Rattle.mill_block.specs.declared.progress.Known.TheVariants.{Nothing, Height, All}
 use Rattle.mill_block.specs.declared.progress.Progress.{Progress}
-use Rattle.mill_block.specs.declared.fault.NgcFault.{NgcFault}
-use Rattle.mill_block.specs.declared.rules.Control.{Control}
-use Rattle.mill_block.specs.declared.rules.Words.{Words}
-use Rattle.mill_block.specs.declared.rules.Words.TheVariants.{Machine as MachineWords}
+use Rattle.mill_said.specs.declared.fault.NgcFault.{NgcFault}
+use Rattle.mill_said.specs.declared.rules.Control.{Control}
+use Rattle.mill_said.specs.declared.rules.Words.{Words}
+use Rattle.mill_said.specs.declared.rules.Words.TheVariants.{Machine as MachineWords}
 use Rattle.mill_block.specs.inner.Bounds.{Stays}
 
 -- ---- what is settled beside the moves

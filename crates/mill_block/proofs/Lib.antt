@@ -1,4 +1,3 @@
-mod SaidLemmas
 mod AlikeLemmas
 mod SettledLemmas
 mod PlainLemmas
@@ -8,8 +7,6 @@ mod RealLemmas
 pub mod RealLines
 mod RiseCerts
 pub mod RiseLemmas
-mod TakesLemmas
-mod ToldLemmas
 pub mod KeptLemmas
 pub mod NamingLemmas
 pub mod HoleLemmas
@@ -17,5 +14,4 @@ pub mod TextLemmas
 mod TextWays
 pub mod TextHoles
 mod TextLines
-mod TextFits
 pub mod TextKept

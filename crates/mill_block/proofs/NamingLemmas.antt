@@ -6,19 +6,19 @@ use Rattle.mill_base.specs.Units.{greatest_of}
 use Rattle.mill_base.specs.declared.points.Pt3.{Pt3}
 use Rattle.mill_words.specs.declared.word.Num.{Num}
 use Rattle.mill_control.specs.Lengths.{rounded}
-use Rattle.mill_control.specs.Places.{across_allows, allows, height_allows, hole_allows, is_high, is_known, is_under, low_allows}
+use Rattle.mill_control.specs.Places.{across_allows, allows, height_allows, whole_allows, is_high, is_known, is_under, low_allows}
 use Rattle.mill_control.specs.declared.place.Naming.{Naming}
 use Rattle.mill_control.specs.declared.place.Place.{Place}
 use Rattle.mill_block.specs.MachineLines.{coordinate_for, is_taken, naming_of, place_in, place_of, target_for, units_for}
 use Rattle.mill_block.specs.MachineSettings.{per_of}
 use Rattle.mill_block.specs.Motion.{known_of}
-use Rattle.mill_block.specs.declared.fault.NgcFault.{NgcFault}
-use Rattle.mill_block.specs.declared.fault.NgcFault.TheVariants as fault
-use Rattle.mill_block.specs.declared.machine_said.MachineSaid.{MachineSaid}
+use Rattle.mill_said.specs.declared.fault.NgcFault.{NgcFault}
+use Rattle.mill_said.specs.declared.fault.NgcFault.TheVariants as fault
+use Rattle.mill_said.specs.declared.machine_said.MachineSaid.{MachineSaid}
 use Rattle.mill_block.specs.declared.progress.Known.{Known}
 use Rattle.mill_block.specs.declared.progress.Known.TheVariants.{Nothing, Height, All}
 use Rattle.mill_block.specs.declared.progress.Progress.{Progress}
-use Rattle.mill_block.specs.declared.rules.Control.{Control}
+use Rattle.mill_said.specs.declared.rules.Control.{Control}
 use Rattle.mill_block.proofs.RiseLemmas.{at_most, end_z}
 
 -- ---- a number in units
@@ -55,9 +55,9 @@ low-first false u w b e = absurd cc
 low-unless : (known : Known) (p : Place) (n : Naming) → allows (place_in known p) n ≡ true → (known ≡ All) ⊎ (is_under n.z ≡ false)
 low-unless All p n e = inl refl
 low-unless Height p n e =
-    inr (low-first (height_allows p.height n) (is_under n.z) (not (is_high p.height && (n.x || n.y))) (across_allows (record p { across = false }) n && hole_allows (record p { across = false }) n) e)
+    inr (low-first (height_allows p.height n) (is_under n.z) (not (is_high p.height && (n.x || n.y))) (across_allows (record p { across = false }) n && whole_allows (record p { across = false }) n) e)
 low-unless Nothing p n e =
-    inr (low-first (height_allows p.height n) (is_under n.z) (not (is_high p.height && (n.x || n.y))) (across_allows (record p { across = false }) n && hole_allows (record p { across = false }) n) e)
+    inr (low-first (height_allows p.height n) (is_under n.z) (not (is_high p.height && (n.x || n.y))) (across_allows (record p { across = false }) n && whole_allows (record p { across = false }) n) e)
 
 over-if : (c : Control) (p : Progress) (s : MachineSaid) (z : ℤ) → ((known_of p ≡ All) ⊎ (is_under (naming_of p s).z ≡ false)) → coordinate_for c p p.here.z s.z ≡ Ok z
     → (known_of p ≡ All) ⊎ ((p.here.z ≤ℤ z) ⊎ (p.clear ≤ℤ z))
@@ -79,15 +79,15 @@ across-first true true true k is e = e
 across-first true false true k is e = e
 across-first false a true k is e = e
 
-drills-known : (known : Known) (p : Place) (n : Naming) → n.drills ≡ true → allows (place_in known p) n ≡ true → known ≡ All
+drills-known : (known : Known) (p : Place) (n : Naming) → n.needs_place ≡ true → allows (place_in known p) n ≡ true → known ≡ All
 drills-known All p n drills e = refl
 drills-known Height p n drills e =
     let no : false ≡ true =
-    across-first (height_allows p.height n && low_allows (record p { across = false }) n) (across_allows (record p { across = false }) n) n.drills (is_known p.height) drills e in
+    across-first (height_allows p.height n && low_allows (record p { across = false }) n) (across_allows (record p { across = false }) n) n.needs_place (is_known p.height) drills e in
     absurd cc
 drills-known Nothing p n drills e =
     let no : false ≡ true =
-    across-first (height_allows p.height n && low_allows (record p { across = false }) n) (across_allows (record p { across = false }) n) n.drills (is_known p.height) drills e in
+    across-first (height_allows p.height n && low_allows (record p { across = false }) n) (across_allows (record p { across = false }) n) n.needs_place (is_known p.height) drills e in
     absurd cc
 
 pub drills_known : (p : Progress) (s : MachineSaid) → is_some p.machine.cycle ≡ true → allows (place_of p) (naming_of p s) ≡ true → known_of p ≡ All

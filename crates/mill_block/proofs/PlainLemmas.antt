@@ -19,32 +19,33 @@ use Rattle.mill_words.specs.Words.{Line, empty_line, is_blank}
 use Rattle.mill_words.proofs.PlainLines.{line_from-start, line_from-end}
 use Rattle.mill_words.specs.declared.word.Num.{Num}
 use Rattle.mill_words.specs.declared.word.Word.{Word}
-use Rattle.mill_block.specs.declared.groups.Group.{Group}
+use Rattle.mill_said.specs.declared.before.Before.{Before}
+use Rattle.mill_said.specs.declared.groups.Group.{Group}
 use Rattle.mill_block.specs.declared.plain_move.PlainLine.{PlainLine}
 use Rattle.mill_block.specs.declared.plain_move.PlainMove.{PlainMove}
-use Rattle.mill_block.specs.declared.profile.Entry.{Entry}
-use Rattle.mill_block.specs.declared.profile.Effect.TheVariants.{Rate, Motion, X, Y, Z}
-use Rattle.mill_block.specs.declared.profile.Mode.TheVariants.{On}
-use Rattle.mill_block.specs.declared.machine_takes.Takes.{Takes}
+use Rattle.mill_said.specs.declared.profile.Entry.{Entry}
+use Rattle.mill_said.specs.declared.profile.Effect.TheVariants.{Rate, Motion, X, Y, Z}
+use Rattle.mill_said.specs.declared.profile.Mode.TheVariants.{On}
+use Rattle.mill_said.specs.declared.machine_takes.Takes.{Takes}
 use Rattle.mill_block.specs.declared.progress.Progress.{Progress}
-use Rattle.mill_block.specs.declared.rules.Words.{Words}
-use Rattle.mill_block.specs.declared.rules.Words.TheVariants.{Strict, Machine as MachineWords}
-use Rattle.mill_block.specs.declared.said.Said.{Said}
-use Rattle.mill_block.specs.MachineSaid.{nothing_told, told_from}
-use Rattle.mill_block.specs.MachineTable.{tenths_of}
-use Rattle.mill_block.specs.MachineTakes.{takes_of}
+use Rattle.mill_said.specs.declared.rules.Words.{Words}
+use Rattle.mill_said.specs.declared.rules.Words.TheVariants.{Strict, Machine as MachineWords}
+use Rattle.mill_said.specs.declared.said.Said.{Said}
+use Rattle.mill_said.specs.MachineSaid.{nothing_told, told_from}
+use Rattle.mill_said.specs.MachineTable.{tenths_of}
+use Rattle.mill_said.specs.MachineTakes.{takes_of}
 use Rattle.mill_block.specs.Drives.{driven, driven_or_fault}
 use Rattle.mill_block.specs.declared.progress.Drive.{Drive}
 use Rattle.mill_block.specs.Motion.{acted, coordinate, made_move, moved, target}
-use Rattle.mill_block.specs.Numbers.{axis_units, is_over_zero, signed, whole_of}
-use Rattle.mill_block.specs.Profile.{entry_in, entry_of, g_entry, is_same_group, is_tool, may_repeat, row}
-use Rattle.mill_block.specs.Lines.{acted_by, after_line, after_words, has_frame, is_percent, line_begun}
-use Rattle.mill_block.specs.Said.{after_entry, after_word, group_of, has_axis, noted, nothing_said, said_from}
+use Rattle.mill_said.specs.Numbers.{axis_units, is_over_zero, signed, whole_of}
+use Rattle.mill_said.specs.Profile.{entry_in, entry_of, g_entry, is_same_group, is_tool, may_repeat, row}
+use Rattle.mill_block.specs.Lines.{acted_by, after_line, after_words, has_frame, is_percent, line_begun, settled_before}
+use Rattle.mill_said.specs.Said.{after_entry, after_word, group_of, has_axis, noted, nothing_said, said_from}
 use Rattle.mill_block.specs.inner.PlainMoves.{AreFree, Goes, HasDrive, IsAxis, IsCapital, IsEnd, IsFree, IsMotion, IsReady, LineMovesTo, MovesTo, ReadTo, Says, SetsMotion, TakenTo, TakesPlain, made_plain, mode_of, one_if, rate_of, told_as, words_in}
 use Rattle.mill_block.proofs.AlikeLemmas.{told-feed, told-first, told-motion, told-none, told-x, told-y, told-z}
 use Rattle.mill_block.proofs.SettledLemmas.{acted-settled}
-use Rattle.mill_block.proofs.ToldLemmas.{told_from-end, told_from-next}
-use Rattle.mill_block.proofs.SaidLemmas.{row-x, row-y, row-z, said_from-end, said_from-first, said_from-next, said_from-none}
+use Rattle.mill_said.proofs.ToldLemmas.{told_from-end, told_from-next}
+use Rattle.mill_said.proofs.SaidLemmas.{row-x, row-y, row-z, said_from-end, said_from-first, said_from-next, said_from-none}
 
 -- ---- numbers
 
@@ -257,19 +258,19 @@ acted-plain p s plain m ready says end =
 
 -- and so does the line with those words, by either table
 by-words : (words : Words) (p : Progress) (l : Line) (s : Said) (begun : Bool) (plain : PlainLine) (m : PlainMove) → l.slash ≡ false → IsReady p → TakesPlain words p.machine
-    → said_from p.line p.positioned nothing_said l.words ≡ Ok s → ((q : Progress) (t : Takes) → told_from q t nothing_told l.words ≡ Ok (told_as begun s))
+    → said_from p.line p.positioned nothing_said l.words ≡ Ok s → ((q : Before) (t : Takes) → told_from q t nothing_told l.words ≡ Ok (told_as begun s))
     → Says p.unit p.line plain s → IsEnd p plain m → acted_by words p l ≡ made_plain p m
 by-words Strict p l s begun plain m slash ready plainly said told says end = rw (slash, said) (acted-plain p s plain m ready says end)
 by-words (MachineWords c) p l s begun plain m slash ready plainly said told says end =
     let some : has_axis s ≡ true = rw (named p.unit p.line plain.x s.x says.x, named p.unit p.line plain.y s.y says.y, named p.unit p.line plain.z s.z says.z) end.some in
-    rw (slash, told p (takes_of c p l.words)) (acted-settled c p s begun plain m ready plainly says end some (drive-none p.rules.needs_spindle m.kind p.drive p.line ready.drive))
+    rw (slash, told (settled_before p) (takes_of c (settled_before p) l.words)) (acted-settled c p s begun plain m ready plainly says end some (drive-none p.rules.needs_spindle m.kind p.drive p.line ready.drive))
 
 after-plain : (p : Progress) (l : Line) → IsReady p → after_words p l ≡ acted_by p.rules.words p l
 unfolding after_words
 after-plain p l ready = rw (ready.frame (is_blank l)) refl
 
 moves-by : (p : Progress) (l : Line) (s : Said) (begun : Bool) (plain : PlainLine) (m : PlainMove) → l.slash ≡ false → IsReady p → IsInUnitRange p.unit p.here
-    → said_from p.line p.positioned nothing_said l.words ≡ Ok s → ((q : Progress) (t : Takes) → told_from q t nothing_told l.words ≡ Ok (told_as begun s))
+    → said_from p.line p.positioned nothing_said l.words ≡ Ok s → ((q : Before) (t : Takes) → told_from q t nothing_told l.words ≡ Ok (told_as begun s))
     → Says p.unit p.line plain s → IsEnd p plain m → MovesTo p l m
 moves-by p l s begun plain m slash ready here said told says end = record {
   moves = after-plain p l ready ∙ by-words p.rules.words p l s begun plain m slash ready ready.words said told says end;

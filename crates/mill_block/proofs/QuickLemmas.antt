@@ -7,7 +7,7 @@ use Rattle.mill_words.specs.Lines.{EndsWord, and_word, is_word_letter, line_from
 use Rattle.mill_words.specs.Words.{Line}
 use Rattle.mill_words.specs.declared.word.Num.{Num}
 use Rattle.mill_block.specs.declared.plain_move.PlainMove.{PlainMove}
-use Rattle.mill_block.specs.declared.profile.Mode.TheVariants.{On}
+use Rattle.mill_said.specs.declared.profile.Mode.TheVariants.{On}
 use Rattle.mill_block.specs.declared.progress.Progress.{Progress}
 use Rattle.mill_block.specs.Lines.{line_begun}
 use Rattle.mill_block.specs.inner.PlainMoves.{EndsLine, FeedWord, IsMotion, IsReady, LineMovesTo, ReadTo, ReadsAxis, in_order, mode_of, plain_target}

@@ -10,7 +10,7 @@ use Rattle.mill_base.specs.declared.motion.Kind.TheVariants.{Rapid, Feed, Dogleg
 use Rattle.mill_base.specs.declared.motion.Move.{Move}
 use Rattle.mill_base.specs.declared.points.Pt3.{Pt3}
 use Rattle.mill_words.specs.declared.word.Num.{Num}
-use Rattle.mill_control.specs.Places.{across_allows, allows, behind, height_allows, hole_allows, is_high, is_known, is_over, is_under, low_allows, other_length, other_zero, raised, unsure}
+use Rattle.mill_control.specs.Places.{across_allows, allows, behind, height_allows, whole_allows, is_high, is_known, is_over, is_under, low_allows, other_length, other_zero, raised, unsure}
 use Rattle.mill_control.specs.declared.place.Height.{Height}
 use Rattle.mill_control.specs.declared.place.Height.TheVariants.{Unknown, High, Known}
 use Rattle.mill_control.specs.declared.place.Naming.{Naming}
@@ -19,11 +19,11 @@ use Rattle.mill_block.specs.MachineLines.{place_in, place_of}
 use Rattle.mill_block.specs.Motion.{is_rapid}
 use Rattle.mill_block.specs.RealWays.{IsForeseen, IsHeight, IsHigh, IsToClear, LeavesTip, MayBeAt}
 use Rattle.mill_block.specs.TextPaths.{parts, text_or, text_units}
-use Rattle.mill_block.specs.declared.profile.Mode.TheVariants.{On}
+use Rattle.mill_said.specs.declared.profile.Mode.TheVariants.{On}
 use Rattle.mill_block.specs.declared.progress.Known.{Known as Knowing}
 use Rattle.mill_block.specs.declared.progress.Known.TheVariants.{Nothing, Height as Upright, All as Whole}
 use Rattle.mill_block.specs.declared.progress.Progress.{Progress}
-use Rattle.mill_block.specs.declared.rules.Control.{Control}
+use Rattle.mill_said.specs.declared.rules.Control.{Control}
 
 -- ---- heights
 
@@ -152,18 +152,18 @@ pub record Allows (place : Place) (n : Naming) : Type 0 where
   pub by_height : height_allows place.height n ≡ true
   pub low : low_allows place n ≡ true
   pub across : across_allows place n ≡ true
-  pub hole : hole_allows place n ≡ true
+  pub hole : whole_allows place n ≡ true
 
 pub allowed : (place : Place) (n : Naming) → allows place n ≡ true → Allows place n
 allowed place n e =
-    let all = and_parts (height_allows place.height n && low_allows place n) (across_allows place n && hole_allows place n) e in
+    let all = and_parts (height_allows place.height n && low_allows place n) (across_allows place n && whole_allows place n) e in
     let up = and_parts (height_allows place.height n) (low_allows place n) all.0 in
-    let over = and_parts (across_allows place n) (hole_allows place n) all.1 in
+    let over = and_parts (across_allows place n) (whole_allows place n) all.1 in
     record { by_height = up.0; low = up.1; across = over.0; hole = over.1 }
 
 -- what a line names: `over` tells of a number that it is at or over the safe height
 abbrev pub naming : Kind → Bool → Option Num → Option Num → Option Num → (Num → Bool) → Naming
-naming kind drills x y z over = record { rapid = is_rapid (On kind); drills = drills; x = is_some x; y = is_some y; z = option_map over z }
+naming kind drills x y z over = record { rapid = is_rapid (On kind); needs_place = drills; x = is_some x; y = is_some y; z = option_map over z }
 
 -- where it leads
 abbrev pub leads_to : ℕ → Pt3 → Option Num → Option Num → Option Num → Pt3

@@ -25,35 +25,35 @@ use Rattle.mill_control.specs.declared.place.Place.{Place}
 use Rattle.mill_control.specs.declared.series.Cycle.{Cycle}
 use Rattle.mill_control.specs.declared.series.Series.{Series}
 use Rattle.mill_block.specs.Drives.{driven_or_fault}
-use Rattle.mill_block.specs.Lines.{acted_by, after_line, after_words, has_frame, in_frame, is_percent, line_begun, line_in, with_line, with_percent, words_or_fault}
+use Rattle.mill_block.specs.Lines.{acted_by, after_line, after_words, has_frame, in_frame, is_percent, line_begun, line_in, settled_before, with_line, with_percent, words_or_fault}
 use Rattle.mill_block.specs.MachineLines.{Done, above_of, acts_by, arrived, axis_done, coordinate_for, drilled, drills_hole, gone_to, gone_up, hole_for, idles, is_drillable, is_idle, is_safe, machine_acted, machine_behind, machine_done, names_by, names_height, naming_of, park, parks, place_in, place_of, rise, series_for, stands, still_at, target_for, up_fits, waits, went, with_place, with_stop}
-use Rattle.mill_block.specs.MachineSaid.{names_axis, told_line}
+use Rattle.mill_said.specs.MachineSaid.{names_axis, told_line}
 use Rattle.mill_block.specs.MachineSettings.{has_lengths, is_of_tool, offsets_behind, per_of, settled_for, with_length, with_tool}
 use Rattle.mill_block.specs.Motion.{known_of}
 use Rattle.mill_block.specs.RealWays.{AxisGoes, GoesAcross, GoesAway, GoesUp, IsForeseen, IsHeight, IsHigh, LeavesTip, LineGoes, LineIsForeseen, MayBeAt, MayGo, SaidGoes, TellsWay, ToldGoes, WordsGo, real_acts}
-use Rattle.mill_block.specs.Said.{◌>>=◌}
+use Rattle.mill_said.specs.Said.{◌>>=◌}
 use Rattle.mill_block.specs.TextPaths.{Way, text_above, text_acts, text_done, text_drilled, text_gone, text_in, text_line, text_named, text_target, text_told, text_units, text_words}
-use Rattle.mill_block.specs.declared.fault.NgcFault.{NgcFault}
-use Rattle.mill_block.specs.declared.fault.NgcFault.TheVariants as fault
+use Rattle.mill_said.specs.declared.fault.NgcFault.{NgcFault}
+use Rattle.mill_said.specs.declared.fault.NgcFault.TheVariants as fault
 use Rattle.mill_block.specs.declared.machine.Machine.{Machine}
-use Rattle.mill_block.specs.declared.machine_said.MachineSaid.{MachineSaid}
-use Rattle.mill_block.specs.declared.machine_said.Up.{Up}
-use Rattle.mill_block.specs.declared.profile.Mode.{Mode}
-use Rattle.mill_block.specs.declared.profile.Mode.TheVariants.{Off, On}
+use Rattle.mill_said.specs.declared.machine_said.MachineSaid.{MachineSaid}
+use Rattle.mill_said.specs.declared.machine_said.Up.{Up}
+use Rattle.mill_said.specs.declared.profile.Mode.{Mode}
+use Rattle.mill_said.specs.declared.profile.Mode.TheVariants.{Off, On}
 use Rattle.mill_block.specs.declared.progress.Frame.{Frame}
 use Rattle.mill_block.specs.declared.progress.Frame.TheVariants.{Unknown as Unframed, Framed, Plain}
 use Rattle.mill_block.specs.declared.progress.Known.{Known as Knowing}
 use Rattle.mill_block.specs.declared.progress.Known.TheVariants.{Nothing, Height as Upright, All as Whole}
 use Rattle.mill_block.specs.declared.progress.Progress.{Progress}
-use Rattle.mill_block.specs.declared.rules.Control.{Control}
-use Rattle.mill_block.specs.declared.rules.Words.{Words}
-use Rattle.mill_block.specs.declared.rules.Words.TheVariants.{Machine as MachineWords}
-use Rattle.mill_block.specs.inner.Bounds.{FitsTold}
+use Rattle.mill_said.specs.declared.rules.Control.{Control}
+use Rattle.mill_said.specs.declared.rules.Words.{Words}
+use Rattle.mill_said.specs.declared.rules.Words.TheVariants.{Machine as MachineWords}
+use Rattle.mill_said.specs.Bounds.{FitsTold}
 use Rattle.mill_block.proofs.RealLemmas.{Allows, AreHigh, Sure, all_known, allowed, behind_far, choice_in, far_foreseen, high_near, high_over, leads_to, length_in, may_be, naming, parked_high, raised_in, same_place, sure_behind, sure_of, sure_there, tool_in, way_foreseen, zero_in}
 use Rattle.mill_block.proofs.RiseLemmas.{at_most, end_z}
 use Rattle.mill_block.proofs.TextLemmas.{number_near}
 use Rattle.mill_block.proofs.TextWays.{units_taken}
-use Rattle.mill_block.proofs.TextFits.{told_fits}
+use Rattle.mill_said.proofs.TextFits.{told_fits}
 
 -- ---- steps
 
@@ -473,9 +473,9 @@ goes-acted c p at r s way fits near sure tells =
 -- ---- a line of a text
 
 goes-told : (c : Control) (p : Progress) (at r : Pt3) (l : Line) (told : Result MachineSaid NgcFault) (way : Way) → All FitsWord l.words → IsRounded c.rounds (10 ^ 18) at p.here → Sure (place_of p) c.rounds p.clear at r
-    → told_line c p l ≡ told → ToldGoes c p r way told → OnDone (told >>= machine_acted c p) (Lands c p.clear (text_told c p at told) way)
+    → told_line c (settled_before p) l ≡ told → ToldGoes c p r way told → OnDone (told >>= machine_acted c p) (Lands c p.clear (text_told c p at told) way)
 unfolding OnDone
-goes-told c p at r l (Ok s) way words near sure is goes = goes-acted c p at r s way (told_fits c p l s words is).0 near sure goes
+goes-told c p at r l (Ok s) way words near sure is goes = goes-acted c p at r s way (told_fits c (settled_before p) l s words is).0 near sure goes
 goes-told c p at r l (Err f) way words near sure is goes = tt
 
 goes-words : (c : Control) (p : Progress) (at r : Pt3) (bytes : List ℕ) (read : Result Line WordFault) (way : Way) → p.rules.words ≡ MachineWords c → IsRounded c.rounds (10 ^ 18) at p.here → Sure (place_of p) c.rounds p.clear at r
@@ -485,7 +485,7 @@ goes-words c p at r bytes (Err f) way words near sure is goes = tt
 goes-words c p at r bytes (Ok l) way words near sure is goes =
     let q : Progress = with_line p (is_blank_line l) in
     subst (λ (w : Words). OnDone (acted_by w q l) (Lands c p.clear (text_words c p at (Ok l)) way)) (sym words)
-    (goes-told c q at r l (told_line c q l) way (line_fits bytes l is) near sure refl goes)
+    (goes-told c q at r l (told_line c (settled_before q) l) way (line_fits bytes l is) near sure refl goes)
 
 goes-frame : (c : Control) (p : Progress) (at r : Pt3) (frame : Frame) → Sure (place_of p) c.rounds p.clear at r → Lands c p.clear (at, []) (r, []) (in_frame frame p, [])
 unfolding Lands

@@ -12,14 +12,14 @@ use Rattle.mill_base.specs.declared.points.Pt3.{Pt3}
 use Rattle.mill_base.specs.declared.unit.Unit.{Unit as LengthUnit}
 use Rattle.mill_words.specs.declared.word.Num.{Num}
 use Rattle.mill_block.specs.Motion.{coordinate, is_rapid, known_of, may_come, reaches, target}
-use Rattle.mill_block.specs.Numbers.{axis_units, is_at_or_over, is_on_grid, signed, whole_units}
-use Rattle.mill_block.specs.Said.{◌>>=◌}
-use Rattle.mill_block.specs.declared.fault.NgcFault.{NgcFault}
-use Rattle.mill_block.specs.declared.fault.NgcFault.TheVariants as fault
+use Rattle.mill_said.specs.Numbers.{axis_units, is_at_or_over, is_on_grid, signed, whole_units}
+use Rattle.mill_said.specs.Said.{◌>>=◌}
+use Rattle.mill_said.specs.declared.fault.NgcFault.{NgcFault}
+use Rattle.mill_said.specs.declared.fault.NgcFault.TheVariants as fault
 use Rattle.mill_block.specs.declared.progress.Known.{Known}
 use Rattle.mill_block.specs.declared.progress.Known.TheVariants.{Nothing, Height, All}
 use Rattle.mill_block.specs.declared.progress.Progress.{Progress}
-use Rattle.mill_block.specs.declared.said.Said.{Said}
+use Rattle.mill_said.specs.declared.said.Said.{Said}
 use Rattle.mill_block.proofs.RiseCerts.{unscaled}
 
 -- ---- a number on the grid

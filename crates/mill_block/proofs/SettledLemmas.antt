@@ -19,24 +19,24 @@ use Rattle.mill_control.specs.declared.offsets.ToolLength.{ToolLength}
 use Rattle.mill_control.specs.declared.offsets.ToolLength.TheVariants.{Beginning, Cancelled, Unnumbered, Numbered}
 use Rattle.mill_control.specs.declared.place.Height.TheVariants.{Known as KnownHeight}
 use Rattle.mill_control.specs.declared.place.Naming.{Naming}
-use Rattle.mill_block.specs.declared.fault.NgcFault.{NgcFault}
-use Rattle.mill_block.specs.declared.fault.NgcFault.TheVariants as fault
+use Rattle.mill_said.specs.declared.fault.NgcFault.{NgcFault}
+use Rattle.mill_said.specs.declared.fault.NgcFault.TheVariants as fault
 use Rattle.mill_block.specs.declared.machine.Machine.{Machine}
-use Rattle.mill_block.specs.declared.machine_said.MachineSaid.{MachineSaid}
+use Rattle.mill_said.specs.declared.machine_said.MachineSaid.{MachineSaid}
 use Rattle.mill_block.specs.declared.plain_move.PlainLine.{PlainLine}
 use Rattle.mill_block.specs.declared.plain_move.PlainMove.{PlainMove}
-use Rattle.mill_block.specs.declared.profile.Mode.{Mode}
-use Rattle.mill_block.specs.declared.profile.Mode.TheVariants.{On}
+use Rattle.mill_said.specs.declared.profile.Mode.{Mode}
+use Rattle.mill_said.specs.declared.profile.Mode.TheVariants.{On}
 use Rattle.mill_block.specs.declared.progress.Drive.{Drive}
 use Rattle.mill_block.specs.declared.progress.Known.TheVariants.{All}
 use Rattle.mill_block.specs.declared.progress.Progress.{Progress}
-use Rattle.mill_block.specs.declared.rules.Control.{Control}
-use Rattle.mill_block.specs.declared.said.Said.{Said}
+use Rattle.mill_said.specs.declared.rules.Control.{Control}
+use Rattle.mill_said.specs.declared.said.Said.{Said}
 use Rattle.mill_block.specs.Drives.{driven_by, driven_or_fault}
 use Rattle.mill_block.specs.MachineLines.{acts_by, coordinate_for, machine_acted, machine_behind, names_by, names_height, naming_of, parks, place_of, target_for, units_for}
 use Rattle.mill_block.specs.MachineSettings.{cycle_behind, has_lengths, machine_settled, mode_behind, offsets_behind, place_behind, series_behind, settled_for}
 use Rattle.mill_block.specs.Motion.{known_of, made_move}
-use Rattle.mill_block.specs.Numbers.{axis_units, is_on_grid, signed, whole_units}
+use Rattle.mill_said.specs.Numbers.{axis_units, is_on_grid, signed, whole_units}
 use Rattle.mill_block.specs.inner.PlainMoves.{HasDrive, IsAxis, IsEnd, IsReady, IsSettled, Says, made_plain, mode_of, motion_of, plain_target, rate_of, told_as}
 use Rattle.mill_block.proofs.RiseLemmas.{parts_whole, some_power}
 
@@ -126,7 +126,7 @@ named-again o false false = refl
 
 -- ---- the place, which is known
 
-allowed : (rapid x y : Bool) (z : Option Bool) → allows (record { across = true; height = KnownHeight }) (record { rapid = rapid; drills = false; x = x; y = y; z = z }) ≡ true
+allowed : (rapid x y : Bool) (z : Option Bool) → allows (record { across = true; height = KnownHeight }) (record { rapid = rapid; needs_place = false; x = x; y = y; z = z }) ≡ true
 allowed rapid x y None = refl
 allowed rapid x y (Some true) = refl
 allowed rapid x y (Some false) = refl

@@ -21,31 +21,31 @@ use Rattle.mill_control.specs.declared.lengths.LengthUnit.TheVariants.{Millimetr
 use Rattle.mill_control.specs.declared.series.Cycle.{Cycle}
 use Rattle.mill_control.specs.declared.series.Series.{Series}
 use Rattle.mill_block.specs.Drives.{driven_or_fault}
-use Rattle.mill_block.specs.Lines.{acted_by, after_line, after_words, has_frame, in_frame, is_percent, line_begun, line_in, with_line, with_percent, words_or_fault}
+use Rattle.mill_block.specs.Lines.{acted_by, after_line, after_words, has_frame, in_frame, is_percent, line_begun, line_in, settled_before, with_line, with_percent, words_or_fault}
 use Rattle.mill_block.specs.MachineLines.{Done, above_of, acts_by, arrived, axis_done, drilled, drills_hole, gone_to, gone_up, hole_for, idles, is_drillable, is_idle, is_safe, is_taken, machine_acted, machine_behind, machine_done, names_by, names_height, naming_of, park, parks, place_of, rise, series_for, stands, still_at, target_for, up_fits, waits, went, with_place, with_stop}
-use Rattle.mill_block.specs.MachineSaid.{names_axis, other_lengths, told_line}
+use Rattle.mill_said.specs.MachineSaid.{names_axis, other_lengths, told_line}
 use Rattle.mill_block.specs.MachineSettings.{cycle_behind, has_lengths, inches_behind, millimetres_behind, per_of, series_behind, settled_for}
 use Rattle.mill_block.specs.Motion.{known_of}
-use Rattle.mill_block.specs.Said.{◌>>=◌}
+use Rattle.mill_said.specs.Said.{◌>>=◌}
 use Rattle.mill_block.specs.TextPaths.{FitsText, IsTextOf, KeepsPeck, TextLineIs, Way, text_done, text_in, text_line, text_told, text_words}
-use Rattle.mill_block.specs.declared.fault.NgcFault.{NgcFault}
-use Rattle.mill_block.specs.declared.fault.NgcFault.TheVariants as fault
+use Rattle.mill_said.specs.declared.fault.NgcFault.{NgcFault}
+use Rattle.mill_said.specs.declared.fault.NgcFault.TheVariants as fault
 use Rattle.mill_block.specs.declared.machine.Machine.{Machine}
-use Rattle.mill_block.specs.declared.machine_said.MachineSaid.{MachineSaid}
-use Rattle.mill_block.specs.declared.machine_said.Up.{Up}
-use Rattle.mill_block.specs.declared.machine_table.Meaning.TheVariants.{Lengths}
-use Rattle.mill_block.specs.declared.profile.Mode.{Mode}
-use Rattle.mill_block.specs.declared.profile.Mode.TheVariants.{Off, On}
+use Rattle.mill_said.specs.declared.machine_said.MachineSaid.{MachineSaid}
+use Rattle.mill_said.specs.declared.machine_said.Up.{Up}
+use Rattle.mill_said.specs.declared.machine_table.Meaning.TheVariants.{Lengths}
+use Rattle.mill_said.specs.declared.profile.Mode.{Mode}
+use Rattle.mill_said.specs.declared.profile.Mode.TheVariants.{Off, On}
 use Rattle.mill_block.specs.declared.progress.Frame.{Frame}
 use Rattle.mill_block.specs.declared.progress.Frame.TheVariants.{Unknown, Framed, Plain}
 use Rattle.mill_block.specs.declared.progress.Known.{Known}
 use Rattle.mill_block.specs.declared.progress.Known.TheVariants.{Nothing, Height, All as Whole}
 use Rattle.mill_block.specs.declared.progress.Progress.{Progress}
-use Rattle.mill_block.specs.declared.rules.Control.{Control}
-use Rattle.mill_block.specs.declared.rules.Words.{Words}
-use Rattle.mill_block.specs.declared.rules.Words.TheVariants.{Machine as MachineWords}
-use Rattle.mill_block.specs.inner.Bounds.{FitsTold}
-use Rattle.mill_block.proofs.TextFits.{LengthsStay, told_fits}
+use Rattle.mill_said.specs.declared.rules.Control.{Control}
+use Rattle.mill_said.specs.declared.rules.Words.{Words}
+use Rattle.mill_said.specs.declared.rules.Words.TheVariants.{Machine as MachineWords}
+use Rattle.mill_said.specs.Bounds.{FitsTold}
+use Rattle.mill_said.proofs.TextFits.{LengthsStay, told_fits}
 use Rattle.mill_block.proofs.TextLines.{hole_taken, line_is_text_of, series-fits}
 
 -- ---- what stays
@@ -187,7 +187,7 @@ record HasLengths (inches millimetres was : Bool) : Type 0 where
   same : inches ≡ was
   has : (millimetres || inches) ≡ true
 
-lengths-stay : (p : Progress) (lengths : Option LengthUnit) → p.positioned ≡ true → has_lengths p ≡ true → IfSome lengths (λ l. other_lengths p (Lengths l) ≡ false)
+lengths-stay : (p : Progress) (lengths : Option LengthUnit) → p.positioned ≡ true → has_lengths p ≡ true → IfSome lengths (λ l. other_lengths (settled_before p) (Lengths l) ≡ false)
     → HasLengths (inches_behind lengths p.machine.inches) (millimetres_behind lengths p.millimetres) p.machine.inches
 lengths-stay p None placed has free = record { same = refl; has = has }
 lengths-stay p (Some Inches) placed has free = by p.positioned p.millimetres p.machine.inches placed has free
@@ -204,7 +204,7 @@ lengths-stay p (Some Millimetres) placed has free = by p.positioned p.machine.in
     by true false placed free = record { same = refl; has = refl }
     by false inches placed free = absurd cc
 
-peck-stays : (c : Control) (p : Progress) (s : MachineSaid) (series : Option Series) → LengthsStay p s → IfSome series (KeepsPeck c.rounds p.positioned (has_lengths p) (per_of p))
+peck-stays : (c : Control) (p : Progress) (s : MachineSaid) (series : Option Series) → LengthsStay (settled_before p) s → IfSome series (KeepsPeck c.rounds p.positioned (has_lengths p) (per_of p))
     → IfSome series (KeepsPeck c.rounds p.positioned (millimetres_behind s.lengths p.millimetres || inches_behind s.lengths p.machine.inches) (per (if inches_behind s.lengths p.machine.inches then Inches else Millimetres) p.unit))
 unfolding LengthsStay
 peck-stays c p s None free keeps = tt
@@ -212,7 +212,7 @@ peck-stays c p s (Some v) free keeps =
     let stay = lengths-stay p s.lengths keeps.placed keeps.measured free in
     record { placed = keeps.placed; measured = stay.has; q_taken = subst (λ (i : Bool). IfSome v.q (λ n. is_taken c.rounds (per (if i then Inches else Millimetres) p.unit) n ≡ true)) (sym stay.same) keeps.q_taken }
 
-settled-fits : (c : Control) (p : Progress) (s : MachineSaid) → LengthsStay p s → FitsText c p → FitsText c (settled_for c p s)
+settled-fits : (c : Control) (p : Progress) (s : MachineSaid) → LengthsStay (settled_before p) s → FitsText c p → FitsText c (settled_for c p s)
 unfolding settled_for
 settled-fits c p s free fits =
     record {
@@ -243,17 +243,17 @@ unfolding Lands Kept
 lands-done c p at s (Ok done) told fits here is kept = (line_is_text_of c p at s done told fits here is, kept)
 lands-done c p at s (Err f) told fits here is kept = tt
 
-lands-acted : (c : Control) (p : Progress) (at : Pt3) (s : MachineSaid) → FitsTold s → LengthsStay p s → FitsText c p → IsRounded c.rounds (10 ^ 18) at p.here → Lands c (text_done c (settled_for c p s) at s) (machine_acted c p s)
+lands-acted : (c : Control) (p : Progress) (at : Pt3) (s : MachineSaid) → FitsTold s → LengthsStay (settled_before p) s → FitsText c p → IsRounded c.rounds (10 ^ 18) at p.here → Lands c (text_done c (settled_for c p s) at s) (machine_acted c p s)
 unfolding machine_acted settled_for
 lands-acted c p at s told free fits here =
     let settled = settled-fits c p s free fits in
     lands-stopped c (text_done c (settled_for c p s) at s) s.stops (machine_done c (settled_for c p s) s)
     (lands-done c (settled_for c p s) at s (machine_done c (settled_for c p s) s) told settled here refl (kept-done c (settled_for c p s) s told settled))
 
-lands-told : (c : Control) (p : Progress) (at : Pt3) (l : Line) (r : Result MachineSaid NgcFault) → All FitsWord l.words → FitsText c p → IsRounded c.rounds (10 ^ 18) at p.here → told_line c p l ≡ r
+lands-told : (c : Control) (p : Progress) (at : Pt3) (l : Line) (r : Result MachineSaid NgcFault) → All FitsWord l.words → FitsText c p → IsRounded c.rounds (10 ^ 18) at p.here → told_line c (settled_before p) l ≡ r
     → Lands c (text_told c p at r) (r >>= machine_acted c p)
 unfolding Lands
-lands-told c p at l (Ok s) words fits here is = let told = told_fits c p l s words is in lands-acted c p at s told.0 told.1 fits here
+lands-told c p at l (Ok s) words fits here is = let told = told_fits c (settled_before p) l s words is in lands-acted c p at s told.0 told.1 fits here
 lands-told c p at l (Err f) words fits here is = tt
 
 lands-words : (c : Control) (p : Progress) (at : Pt3) (bytes : List ℕ) (r : Result Line WordFault) → p.rules.words ≡ MachineWords c → FitsText c p → IsRounded c.rounds (10 ^ 18) at p.here → line_of bytes ≡ r
@@ -263,7 +263,7 @@ lands-words c p at bytes (Err f) is fits here read = tt
 lands-words c p at bytes (Ok l) is fits here read =
     let q : Progress = with_line p (is_blank_line l) in
     subst (λ (w : Words). Lands c (text_words c p at (Ok l)) (acted_by w q l)) (sym is)
-    (lands-told c q at l (told_line c q l) (line_fits bytes l read) (record { fits = record { clear_fits = fits.fits.clear_fits; series_fits = fits.fits.series_fits }; peck_fits = fits.peck_fits }) here refl)
+    (lands-told c q at l (told_line c (settled_before q) l) (line_fits bytes l read) (record { fits = record { clear_fits = fits.fits.clear_fits; series_fits = fits.fits.series_fits }; peck_fits = fits.peck_fits }) here refl)
 
 framed-fits : (c : Control) (frame : Frame) (p : Progress) (at : Pt3) → FitsText c p → IsRounded c.rounds (10 ^ 18) at p.here → Lands c (at, []) (Ok (in_frame frame p, []))
 unfolding Lands

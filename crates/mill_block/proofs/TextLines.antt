@@ -20,20 +20,20 @@ use Rattle.mill_control.specs.declared.series.Series.{Series}
 use Rattle.mill_block.specs.Drives.{driven_or_fault}
 use Rattle.mill_block.specs.Kept.{FitsProgress}
 use Rattle.mill_block.specs.MachineLines.{Done, acts_by, axis_done, coordinate_for, drilled, drills_hole, hole_for, hole_of, hole_z, idles, is_drillable, is_idle, is_taken, machine_behind, machine_done, names_by, names_height, naming_of, parks, peck_fits, place_of, returns_or, rounded_or, series_for, stands, went, with_place}
-use Rattle.mill_block.specs.MachineSaid.{names_axis}
+use Rattle.mill_said.specs.MachineSaid.{names_axis}
 use Rattle.mill_block.specs.MachineSettings.{has_lengths, per_of}
 use Rattle.mill_block.specs.Motion.{known_of}
-use Rattle.mill_block.specs.Said.{◌>>=◌}
+use Rattle.mill_said.specs.Said.{◌>>=◌}
 use Rattle.mill_block.specs.TextPaths.{FitsText, KeepsPeck, LineIsTextOf, Way, text_acts, text_done, text_drilled, text_end, text_gone, text_hole, text_named, text_or, text_target, text_top, text_units}
-use Rattle.mill_block.specs.declared.fault.NgcFault.{NgcFault}
-use Rattle.mill_block.specs.declared.fault.NgcFault.TheVariants as fault
-use Rattle.mill_block.specs.declared.machine_said.MachineSaid.{MachineSaid}
-use Rattle.mill_block.specs.declared.machine_said.Up.{Up}
-use Rattle.mill_block.specs.declared.profile.Mode.{Mode}
-use Rattle.mill_block.specs.declared.profile.Mode.TheVariants.{Off, On}
+use Rattle.mill_said.specs.declared.fault.NgcFault.{NgcFault}
+use Rattle.mill_said.specs.declared.fault.NgcFault.TheVariants as fault
+use Rattle.mill_said.specs.declared.machine_said.MachineSaid.{MachineSaid}
+use Rattle.mill_said.specs.declared.machine_said.Up.{Up}
+use Rattle.mill_said.specs.declared.profile.Mode.{Mode}
+use Rattle.mill_said.specs.declared.profile.Mode.TheVariants.{Off, On}
 use Rattle.mill_block.specs.declared.progress.Progress.{Progress}
-use Rattle.mill_block.specs.declared.rules.Control.{Control}
-use Rattle.mill_block.specs.inner.Bounds.{FitsTold}
+use Rattle.mill_said.specs.declared.rules.Control.{Control}
+use Rattle.mill_said.specs.Bounds.{FitsTold}
 use Rattle.mill_block.proofs.NamingLemmas.{units-are}
 use Rattle.mill_block.proofs.TextHoles.{TakesHole, hole_near}
 use Rattle.mill_block.proofs.TextLemmas.{near_greater, number_near}

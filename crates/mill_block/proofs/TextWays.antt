@@ -14,18 +14,18 @@ use Rattle.mill_control.specs.Places.{may_park, raised}
 use Rattle.mill_block.specs.MachineLines.{Done, above_of, arrived, coordinate_for, gone_to, gone_up, is_safe, is_taken, park, parks, rise, still_at, target_for, units_for, up_fits, waits, went, with_place}
 use Rattle.mill_block.specs.MachineSettings.{has_lengths, per_of}
 use Rattle.mill_block.specs.Motion.{known_of}
-use Rattle.mill_block.specs.Said.{◌>>=◌}
+use Rattle.mill_said.specs.Said.{◌>>=◌}
 use Rattle.mill_block.specs.TextPaths.{IsTextOf, Way, parts, text_above, text_gone, text_or, text_target, text_units}
-use Rattle.mill_block.specs.declared.fault.NgcFault.{NgcFault}
-use Rattle.mill_block.specs.declared.fault.NgcFault.TheVariants as fault
+use Rattle.mill_said.specs.declared.fault.NgcFault.{NgcFault}
+use Rattle.mill_said.specs.declared.fault.NgcFault.TheVariants as fault
 use Rattle.mill_block.specs.declared.machine.Machine.{Machine}
-use Rattle.mill_block.specs.declared.machine_said.MachineSaid.{MachineSaid}
-use Rattle.mill_block.specs.declared.machine_said.Up.{Up}
+use Rattle.mill_said.specs.declared.machine_said.MachineSaid.{MachineSaid}
+use Rattle.mill_said.specs.declared.machine_said.Up.{Up}
 use Rattle.mill_block.specs.declared.progress.Known.{Known}
 use Rattle.mill_block.specs.declared.progress.Known.TheVariants.{Nothing, Height, All}
 use Rattle.mill_block.specs.declared.progress.Progress.{Progress}
-use Rattle.mill_block.specs.declared.rules.Control.{Control}
-use Rattle.mill_block.specs.inner.Bounds.{FitsTold}
+use Rattle.mill_said.specs.declared.rules.Control.{Control}
+use Rattle.mill_said.specs.Bounds.{FitsTold}
 use Rattle.mill_block.proofs.NamingLemmas.{units-are}
 use Rattle.mill_block.proofs.TextLemmas.{near_greater, near_whole, number_near}
 

@@ -2,10 +2,10 @@
 use Rattle.std.specs.Prelude.{ℕ, ⊤, Option, Bool, true, false, not, ◌&&◌, unwrap_or, if◌then◌else◌, Result, Ok, Err}
 use Rattle.mill_base.specs.declared.motion.Kind.{Kind}
 use Rattle.mill_base.specs.declared.motion.Kind.TheVariants.{Rapid, Feed, Dogleg}
-use Rattle.mill_block.specs.declared.fault.NgcFault.{NgcFault}
-use Rattle.mill_block.specs.declared.fault.NgcFault.TheVariants as fault
+use Rattle.mill_said.specs.declared.fault.NgcFault.{NgcFault}
+use Rattle.mill_said.specs.declared.fault.NgcFault.TheVariants as fault
 use Rattle.mill_block.specs.declared.progress.Drive.{Drive}
-use Rattle.mill_block.specs.declared.said.Said.{Said}
+use Rattle.mill_said.specs.declared.said.Said.{Said}
 
 -- before the first line there is none of it
 abbrev pub no_drive : Drive

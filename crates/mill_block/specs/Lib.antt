@@ -1,11 +1,5 @@
-pub mod Numbers
-pub mod Profile
-pub mod Said
 pub mod Drives
 pub mod Motion
-pub mod MachineTable
-pub mod MachineTakes
-pub mod MachineSaid
 pub mod MachineSettings
 pub mod MachineLines
 pub mod Lines

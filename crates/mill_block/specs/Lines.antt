@@ -8,21 +8,22 @@ use Rattle.mill_words.specs.Words.{Line, is_blank as is_blank_line}
 use Rattle.mill_words.specs.Marks.{is_blank}
 use Rattle.mill_words.specs.Lines.{line_of}
 use Rattle.mill_words.specs.declared.word.WordFault.{WordFault}
-use Rattle.mill_block.specs.declared.fault.NgcFault.{NgcFault}
-use Rattle.mill_block.specs.declared.fault.NgcFault.TheVariants as fault
-use Rattle.mill_block.specs.declared.profile.Mode.TheVariants.{Off}
+use Rattle.mill_said.specs.declared.fault.NgcFault.{NgcFault}
+use Rattle.mill_said.specs.declared.fault.NgcFault.TheVariants as fault
+use Rattle.mill_said.specs.declared.before.Before.{Before}
+use Rattle.mill_said.specs.declared.profile.Mode.TheVariants.{Off}
 use Rattle.mill_block.specs.declared.progress.Frame.{Frame}
 use Rattle.mill_block.specs.declared.progress.Frame.TheVariants.{Unknown, Framed, Plain}
 use Rattle.mill_block.specs.declared.progress.Known.TheVariants.{Nothing}
 use Rattle.mill_block.specs.declared.progress.Progress.{Progress}
-use Rattle.mill_block.specs.declared.rules.Rules.{Rules}
-use Rattle.mill_block.specs.declared.rules.Words.{Words}
-use Rattle.mill_block.specs.declared.rules.Words.TheVariants.{Strict, Machine}
+use Rattle.mill_said.specs.declared.rules.Rules.{Rules}
+use Rattle.mill_said.specs.declared.rules.Words.{Words}
+use Rattle.mill_said.specs.declared.rules.Words.TheVariants.{Strict, Machine}
 use Rattle.mill_block.specs.MachineLines.{machine_acted}
-use Rattle.mill_block.specs.MachineSaid.{told_line}
+use Rattle.mill_said.specs.MachineSaid.{told_line}
 use Rattle.mill_block.specs.MachineSettings.{machine_begun}
 use Rattle.mill_block.specs.Drives.{no_drive}
-use Rattle.mill_block.specs.Said.{◌>>=◌, said_by}
+use Rattle.mill_said.specs.Said.{◌>>=◌, said_by}
 use Rattle.mill_block.specs.Motion.{acted}
 
 -- a reader asks nothing beside of a program
@@ -67,10 +68,14 @@ with_line p blank = record p { frame = frame_after p.frame blank }
 
 -- ---- a line
 
+-- what the lines before a line tell of it
+abbrev pub settled_before : Progress → Before
+settled_before p = record { line = p.line; unit = p.unit; positioned = p.positioned; millimetres = p.millimetres; inches = p.machine.inches; cycle = p.machine.cycle }
+
 -- what the words of a line do
 abbrev pub acted_by : Words → Progress → Line → Result (Progress × List Move) NgcFault
 acted_by Strict p l = said_by p.line p.positioned l >>= acted p
-acted_by (Machine c) p l = told_line c p l >>= machine_acted c p
+acted_by (Machine c) p l = told_line c (settled_before p) l >>= machine_acted c p
 
 unfoldable pub after_words : Progress → Line → Result (Progress × List Move) NgcFault
 after_words p l = acted_by p.rules.words (with_line p (is_blank_line l)) l

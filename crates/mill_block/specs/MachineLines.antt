@@ -19,22 +19,22 @@ use Rattle.mill_control.specs.declared.series.Cycle.{Cycle}
 use Rattle.mill_control.specs.declared.series.Return.{Return}
 use Rattle.mill_control.specs.declared.series.Return.TheVariants.{Level, Clearance}
 use Rattle.mill_control.specs.declared.series.Series.{Series}
-use Rattle.mill_block.specs.declared.fault.NgcFault.{NgcFault}
-use Rattle.mill_block.specs.declared.fault.NgcFault.TheVariants as fault
+use Rattle.mill_said.specs.declared.fault.NgcFault.{NgcFault}
+use Rattle.mill_said.specs.declared.fault.NgcFault.TheVariants as fault
 use Rattle.mill_block.specs.declared.machine.Machine.{Machine}
-use Rattle.mill_block.specs.declared.machine_said.MachineSaid.{MachineSaid}
-use Rattle.mill_block.specs.declared.machine_said.Up.{Up}
-use Rattle.mill_block.specs.declared.profile.Mode.{Mode}
-use Rattle.mill_block.specs.declared.profile.Mode.TheVariants.{Off, On}
+use Rattle.mill_said.specs.declared.machine_said.MachineSaid.{MachineSaid}
+use Rattle.mill_said.specs.declared.machine_said.Up.{Up}
+use Rattle.mill_said.specs.declared.profile.Mode.{Mode}
+use Rattle.mill_said.specs.declared.profile.Mode.TheVariants.{Off, On}
 use Rattle.mill_block.specs.declared.progress.Known.{Known}
 use Rattle.mill_block.specs.declared.progress.Known.TheVariants.{All}
 use Rattle.mill_block.specs.declared.progress.Progress.{Progress}
-use Rattle.mill_block.specs.declared.rules.Control.{Control}
+use Rattle.mill_said.specs.declared.rules.Control.{Control}
 use Rattle.mill_block.specs.Drives.{driven_or_fault}
-use Rattle.mill_block.specs.MachineSaid.{is_drills, names_axis}
+use Rattle.mill_said.specs.MachineSaid.{is_drills, names_axis}
 use Rattle.mill_block.specs.MachineSettings.{has_lengths, lengths_of, per_of, settled_for}
 use Rattle.mill_block.specs.Motion.{is_rapid, known_of, made_move}
-use Rattle.mill_block.specs.Said.{◌>>=◌}
+use Rattle.mill_said.specs.Said.{◌>>=◌}
 
 -- what a line does: the progress behind it, and its moves
 abbrev pub Done : Type 0
@@ -117,7 +117,7 @@ abbrev pub place_of : Progress → Place
 place_of p = place_in (known_of p) p.machine.place
 
 abbrev pub naming_of : Progress → MachineSaid → Naming
-naming_of p s = record { rapid = is_rapid p.mode; drills = is_some p.machine.cycle; x = is_some s.x; y = is_some s.y; z = option_map (λ n. int_le p.clear (rounded (per_of p) n)) s.z }
+naming_of p s = record { rapid = is_rapid p.mode; needs_place = is_some p.machine.cycle; x = is_some s.x; y = is_some s.y; z = option_map (λ n. int_le p.clear (rounded (per_of p) n)) s.z }
 
 abbrev pub names_height : MachineSaid → Bool
 names_height s = is_some s.z || is_some s.r

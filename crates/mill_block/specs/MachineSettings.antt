@@ -14,13 +14,13 @@ use Rattle.mill_control.specs.declared.series.Cycle.{Cycle}
 use Rattle.mill_control.specs.declared.series.Return.{Return}
 use Rattle.mill_control.specs.declared.series.Series.{Series}
 use Rattle.mill_block.specs.declared.machine.Machine.{Machine}
-use Rattle.mill_block.specs.declared.machine_said.MachineSaid.{MachineSaid}
-use Rattle.mill_block.specs.declared.machine_said.Motion.{Motion}
-use Rattle.mill_block.specs.declared.machine_said.Motion.TheVariants.{Goes, Drills}
-use Rattle.mill_block.specs.declared.profile.Mode.{Mode}
-use Rattle.mill_block.specs.declared.profile.Mode.TheVariants.{Off, On}
+use Rattle.mill_said.specs.declared.machine_said.MachineSaid.{MachineSaid}
+use Rattle.mill_said.specs.declared.machine_said.Motion.{Motion}
+use Rattle.mill_said.specs.declared.machine_said.Motion.TheVariants.{Goes, Drills}
+use Rattle.mill_said.specs.declared.profile.Mode.{Mode}
+use Rattle.mill_said.specs.declared.profile.Mode.TheVariants.{Off, On}
 use Rattle.mill_block.specs.declared.progress.Progress.{Progress}
-use Rattle.mill_block.specs.declared.rules.Control.{Control}
+use Rattle.mill_said.specs.declared.rules.Control.{Control}
 use Rattle.mill_block.specs.Drives.{driven_by}
 
 -- before the first line

@@ -7,17 +7,17 @@ use Rattle.mill_base.specs.declared.motion.Kind.TheVariants.{Rapid}
 use Rattle.mill_base.specs.declared.motion.Move.{Move}
 use Rattle.mill_base.specs.declared.unit.Unit.{Unit}
 use Rattle.mill_words.specs.declared.word.Num.{Num}
-use Rattle.mill_block.specs.declared.fault.NgcFault.{NgcFault}
-use Rattle.mill_block.specs.declared.fault.NgcFault.TheVariants as fault
-use Rattle.mill_block.specs.declared.profile.Mode.{Mode}
-use Rattle.mill_block.specs.declared.profile.Mode.TheVariants.{Off, On}
-use Rattle.mill_block.specs.declared.said.Said.{Said}
+use Rattle.mill_said.specs.declared.fault.NgcFault.{NgcFault}
+use Rattle.mill_said.specs.declared.fault.NgcFault.TheVariants as fault
+use Rattle.mill_said.specs.declared.profile.Mode.{Mode}
+use Rattle.mill_said.specs.declared.profile.Mode.TheVariants.{Off, On}
+use Rattle.mill_said.specs.declared.said.Said.{Said}
 use Rattle.mill_block.specs.declared.progress.Known.{Known}
 use Rattle.mill_block.specs.declared.progress.Known.TheVariants.{Nothing, Height, All}
 use Rattle.mill_block.specs.declared.progress.Progress.{Progress}
 use Rattle.mill_block.specs.Drives.{driven, driven_or_fault}
-use Rattle.mill_block.specs.Numbers.{axis_units, is_at_or_over}
-use Rattle.mill_block.specs.Said.{◌>>=◌, has_axis, has_motion}
+use Rattle.mill_said.specs.Numbers.{axis_units, is_at_or_over}
+use Rattle.mill_said.specs.Said.{◌>>=◌, has_axis, has_motion}
 
 -- the settings of a line take effect
 abbrev pub settled : Progress → Said → Progress

@@ -10,19 +10,19 @@ use Rattle.mill_words.specs.declared.word.WordFault.{WordFault}
 use Rattle.mill_control.specs.declared.place.Height.{Height}
 use Rattle.mill_control.specs.declared.place.Height.TheVariants.{Unknown, High, Known}
 use Rattle.mill_control.specs.declared.series.Cycle.{Cycle}
-use Rattle.mill_block.specs.Lines.{after_line, has_frame, is_percent, line_begun, with_line}
+use Rattle.mill_block.specs.Lines.{after_line, has_frame, is_percent, line_begun, settled_before, with_line}
 use Rattle.mill_block.specs.MachineLines.{hole_for, parks, place_of, series_for}
-use Rattle.mill_block.specs.MachineSaid.{names_axis, told_line}
+use Rattle.mill_said.specs.MachineSaid.{names_axis, told_line}
 use Rattle.mill_block.specs.MachineSettings.{is_of_tool, settled_for}
 use Rattle.mill_block.specs.TextPaths.{Way, parts, text_drilled, text_line, text_target}
-use Rattle.mill_block.specs.declared.fault.NgcFault.{NgcFault}
-use Rattle.mill_block.specs.declared.machine_said.MachineSaid.{MachineSaid}
-use Rattle.mill_block.specs.declared.machine_said.Up.{Up}
-use Rattle.mill_block.specs.declared.profile.Mode.{Mode}
-use Rattle.mill_block.specs.declared.profile.Mode.TheVariants.{Off, On}
+use Rattle.mill_said.specs.declared.fault.NgcFault.{NgcFault}
+use Rattle.mill_said.specs.declared.machine_said.MachineSaid.{MachineSaid}
+use Rattle.mill_said.specs.declared.machine_said.Up.{Up}
+use Rattle.mill_said.specs.declared.profile.Mode.{Mode}
+use Rattle.mill_said.specs.declared.profile.Mode.TheVariants.{Off, On}
 use Rattle.mill_block.specs.declared.progress.Progress.{Progress}
-use Rattle.mill_block.specs.declared.rules.Control.{Control}
-use Rattle.mill_block.specs.declared.rules.Words.TheVariants.{Machine}
+use Rattle.mill_said.specs.declared.rules.Control.{Control}
+use Rattle.mill_said.specs.declared.rules.Words.TheVariants.{Machine}
 
 -- ---- where the tip may be
 
@@ -98,7 +98,7 @@ ToldGoes c p r way (Ok s) = TellsWay c p s r way
 ToldGoes c p r way (Err f) = way ≡ (r, [])
 
 abbrev pub WordsGo : Control → Progress → Pt3 → Way → Result Line WordFault → Type 0
-WordsGo c p r way (Ok l) = ToldGoes c (with_line p (is_blank_line l)) r way (told_line c (with_line p (is_blank_line l)) l)
+WordsGo c p r way (Ok l) = ToldGoes c (with_line p (is_blank_line l)) r way (told_line c (settled_before (with_line p (is_blank_line l))) l)
 WordsGo c p r way (Err f) = way ≡ (r, [])
 
 abbrev pub LineGoes : Bool → Bool → Control → Progress → Pt3 → List ℕ → Way → Type 0

@@ -19,22 +19,22 @@ use Rattle.mill_control.specs.declared.series.Return.{Return}
 use Rattle.mill_control.specs.declared.series.Return.TheVariants.{Level, Clearance}
 use Rattle.mill_control.specs.declared.series.Series.{Series}
 use Rattle.mill_block.specs.MachineLines.{hole_for, is_taken, machine_done, parks, returns_or, series_for}
-use Rattle.mill_block.specs.Lines.{after_line, has_frame, is_percent, line_begun, with_line}
-use Rattle.mill_block.specs.MachineSaid.{names_axis, told_line}
+use Rattle.mill_block.specs.Lines.{after_line, has_frame, is_percent, line_begun, settled_before, with_line}
+use Rattle.mill_said.specs.MachineSaid.{names_axis, told_line}
 use Rattle.mill_block.specs.MachineSettings.{has_lengths, per_of, settled_for}
 use Rattle.mill_block.specs.Motion.{known_of}
-use Rattle.mill_block.specs.declared.fault.NgcFault.{NgcFault}
-use Rattle.mill_block.specs.declared.machine_said.MachineSaid.{MachineSaid}
-use Rattle.mill_block.specs.declared.machine_said.Up.{Up}
-use Rattle.mill_block.specs.declared.profile.Mode.{Mode}
-use Rattle.mill_block.specs.declared.profile.Mode.TheVariants.{Off, On}
+use Rattle.mill_said.specs.declared.fault.NgcFault.{NgcFault}
+use Rattle.mill_said.specs.declared.machine_said.MachineSaid.{MachineSaid}
+use Rattle.mill_said.specs.declared.machine_said.Up.{Up}
+use Rattle.mill_said.specs.declared.profile.Mode.{Mode}
+use Rattle.mill_said.specs.declared.profile.Mode.TheVariants.{Off, On}
 use Rattle.mill_block.specs.declared.progress.Known.{Known}
 use Rattle.mill_block.specs.declared.progress.Known.TheVariants.{All}
 use Rattle.mill_block.specs.declared.progress.Progress.{Progress}
-use Rattle.mill_block.specs.declared.rules.Control.{Control}
-use Rattle.mill_block.specs.declared.rules.Words.TheVariants.{Machine}
+use Rattle.mill_said.specs.declared.rules.Control.{Control}
+use Rattle.mill_said.specs.declared.rules.Words.TheVariants.{Machine}
 use Rattle.mill_block.specs.Kept.{FitsProgress}
-use Rattle.mill_block.specs.inner.Bounds.{FitsTold}
+use Rattle.mill_said.specs.Bounds.{FitsTold}
 
 -- so many parts has a unit
 abbrev pub parts : ℤ
@@ -142,7 +142,7 @@ text_told c p at (Ok s) = text_done c (settled_for c p s) at s
 text_told c p at (Err f) = (at, [])
 
 abbrev pub text_words : Control → Progress → Pt3 → Result Line WordFault → Way
-text_words c p at (Ok l) = text_told c (with_line p (is_blank_line l)) at (told_line c (with_line p (is_blank_line l)) l)
+text_words c p at (Ok l) = text_told c (with_line p (is_blank_line l)) at (told_line c (settled_before (with_line p (is_blank_line l))) l)
 text_words c p at (Err f) = (at, [])
 
 abbrev pub text_in : Control → Progress → Pt3 → List ℕ → Way

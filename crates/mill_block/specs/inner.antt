@@ -1,4 +1,3 @@
 -- What private functions and proofs cite alone: no clause of a public call leads here.
 pub mod Bounds
 pub mod PlainMoves
-pub mod SeenWords

@@ -6,30 +6,26 @@ ghost use Rattle.mill_base.specs.Ranges.{IsInUnitRange};
 ghost use Rattle.mill_words.specs.Lines.{line_of};
 ghost use Rattle.mill_words.specs.Words.{Line};
 ghost use Rattle.mill_words.specs.Marks.{is_blank as is_blank_byte};
-ghost use Rattle.mill_block.specs.declared.fault.NgcFault.TheVariants as faults;
+ghost use Rattle.mill_said.specs.declared.fault.NgcFault.TheVariants as faults;
 ghost use Rattle.mill_block.specs.declared.progress.Progress.{Progress};
 ghost use Rattle.mill_block.specs.Lines.{start_at, is_percent as is_percent_line};
 ghost use Rattle.mill_block.specs.Lines.{percent_step as percent_step_by, has_frame, with_percent};
 ghost use Rattle.mill_block.specs.Lines.{with_line, line_begun, after_line, after_words};
-ghost use Rattle.mill_block.specs.Lines.{words_or_fault, acted_by};
-ghost use Rattle.mill_block.specs.declared.rules.Words.TheVariants.{Strict};
-ghost use Rattle.mill_block.specs.declared.rules.Words.TheVariants.{Machine as MachineWords};
+ghost use Rattle.mill_block.specs.Lines.{words_or_fault, acted_by, settled_before};
+ghost use Rattle.mill_said.specs.declared.rules.Words.TheVariants.{Strict};
+ghost use Rattle.mill_said.specs.declared.rules.Words.TheVariants.{Machine as MachineWords};
 ghost use Rattle.mill_block.specs.Kept.{Adds, AddsLine, Keeps, FitsProgress};
 ghost use Rattle.mill_block.specs.Motion.{known_of};
 ghost use Rattle.mill_block.specs.declared.progress.Known.TheVariants.{All};
 ghost use Rattle.mill_block.specs.inner.Bounds.{Stays};
 ghost use Rattle.mill_block.specs.inner.PlainMoves.{made_plain};
 
-use crate::fault::NgcFault;
 use crate::machine::Machine;
-use crate::machine_said::MachineSaid;
 use crate::motion::add;
 use crate::plain_move::PlainMove;
-use crate::profile::Mode;
 use crate::progress::{Drive, Frame, Known, Progress};
-use crate::rules::{Control, Rules, Words};
-use crate::said::Said;
 use mill_base::{MAX_MOVES, Move, Pt3, Unit};
+use mill_said::{Before, Control, MachineSaid, Mode, NgcFault, Rules, Said, Words};
 use mill_words::{LineWords, read_line_into};
 use std::marker::Model;
 
@@ -318,8 +314,22 @@ impl Progress {
         ensures kept { OnErr result (out.new.items ≡ out.old.items) }
         ensures fits { FitsProgress self.new }
     {
-        told.read(control, self, words)?;
+        told.read(control, &self.before_line(), words)?;
         self.act_for_machine(control, told, out)
+    }
+
+    // What the lines before this one tell of it.
+    fn before_line(&self) -> Before
+        ensures { result ≡ settled_before self.now }
+    {
+        Before {
+            line: self.line,
+            unit: self.unit,
+            positioned: self.positioned,
+            millimetres: self.millimetres,
+            inches: self.machine.inches,
+            cycle: self.machine.cycle,
+        }
     }
 
     // A line that isn't blank, and isn't a `%` alone, shows that a program isn't framed.

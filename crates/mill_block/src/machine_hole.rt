@@ -14,15 +14,13 @@ ghost use Rattle.mill_block.specs.MachineLines.{peck_fits as peck_fits_grid, hol
 ghost use Rattle.mill_block.specs.Motion.{known_of};
 ghost use Rattle.mill_block.specs.declared.progress.Known.TheVariants.{All};
 ghost use Rattle.mill_block.specs.Kept.{Adds, FitsProgress};
-ghost use Rattle.mill_block.specs.declared.fault.NgcFault.TheVariants as faults;
-ghost use Rattle.mill_block.specs.inner.Bounds.{FitsTold};
+ghost use Rattle.mill_said.specs.declared.fault.NgcFault.TheVariants as faults;
+ghost use Rattle.mill_said.specs.Bounds.{FitsTold};
 
-use crate::fault::NgcFault;
-use crate::machine_said::MachineSaid;
 use crate::progress::Progress;
-use crate::rules::Control;
 use mill_base::{MAX_MOVES, Move, Pt3};
 use mill_control::{Cycle, Hole, Return, Series, count_hole, drill, is_whole, rounded};
+use mill_said::{Control, MachineSaid, NgcFault};
 use mill_words::Num;
 
 impl Progress {

@@ -20,21 +20,19 @@ ghost use Rattle.mill_block.specs.MachineLines.{is_before_tool as is_before_tool
 ghost use Rattle.mill_block.specs.MachineLines.{units_for as units_for_control, coordinate_for};
 ghost use Rattle.mill_block.specs.MachineLines.{target_for as target_for_control};
 ghost use Rattle.mill_block.specs.MachineLines.{gone_to, arrived, waits, still_at};
-ghost use Rattle.mill_block.specs.MachineSaid.{is_drills as is_drills_motion};
+ghost use Rattle.mill_said.specs.MachineSaid.{is_drills as is_drills_motion};
 ghost use Rattle.mill_block.specs.Motion.{known_of};
 ghost use Rattle.mill_block.specs.declared.progress.Known.TheVariants.{All};
 ghost use Rattle.mill_block.specs.Kept.{Adds, Keeps, FitsProgress};
-ghost use Rattle.mill_block.specs.declared.fault.NgcFault.TheVariants as faults;
-ghost use Rattle.mill_block.specs.inner.Bounds.{FitsTold, Stays};
+ghost use Rattle.mill_said.specs.declared.fault.NgcFault.TheVariants as faults;
+ghost use Rattle.mill_said.specs.Bounds.{FitsTold};
+ghost use Rattle.mill_block.specs.inner.Bounds.{Stays};
 
-use crate::fault::NgcFault;
-use crate::machine_said::{MachineSaid, Motion, Up};
 use crate::motion::{add, is_rapid};
-use crate::profile::Mode;
 use crate::progress::{Known, Progress};
-use crate::rules::Control;
 use mill_base::{Kind, MAX_MOVES, Move, Pt3};
 use mill_control::{Naming, Place, is_whole, rounded};
+use mill_said::{Control, MachineSaid, Mode, Motion, NgcFault, Up};
 use mill_words::Num;
 
 impl Progress {
@@ -274,7 +272,7 @@ impl Progress {
     {
         Naming {
             rapid: is_rapid(self.mode),
-            drills: self.machine.cycle.is_some(),
+            needs_place: self.machine.cycle.is_some(),
             x: said.x.is_some(),
             y: said.y.is_some(),
             z: match said.z {

@@ -20,14 +20,13 @@ ghost use Rattle.mill_block.specs.MachineSettings.{machine_settled, settled_for}
 ghost use Rattle.mill_block.specs.MachineSettings.{lengths_of, per_of};
 ghost use Rattle.mill_block.specs.MachineSettings.{has_lengths as has_lengths_of};
 ghost use Rattle.mill_block.specs.Kept.{FitsProgress};
-ghost use Rattle.mill_block.specs.inner.Bounds.{FitsTold, Stays};
+ghost use Rattle.mill_said.specs.Bounds.{FitsTold};
+ghost use Rattle.mill_block.specs.inner.Bounds.{Stays};
 
 use crate::machine::Machine;
-use crate::machine_said::{MachineSaid, Motion};
-use crate::profile::Mode;
 use crate::progress::{Drive, Progress};
-use crate::rules::Control;
 use mill_control::{Cycle, LengthUnit, Offsets, Place, Return, Series, ToolLength, exact};
+use mill_said::{Control, MachineSaid, Mode, Motion};
 use mill_words::Num;
 
 impl Progress {

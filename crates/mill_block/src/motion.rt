@@ -12,15 +12,13 @@ ghost use Rattle.mill_block.specs.Motion.{coordinate as coordinate_of, target as
 ghost use Rattle.mill_block.specs.Motion.{made_move, risen, began, gone, moved_by, moved, acted};
 ghost use Rattle.mill_block.specs.declared.progress.Known.TheVariants.{Height, All};
 ghost use Rattle.mill_block.specs.Kept.{Adds, Keeps};
-ghost use Rattle.mill_block.specs.declared.fault.NgcFault.TheVariants as faults;
-ghost use Rattle.mill_block.specs.inner.Bounds.{FitsSaid, Stays};
+ghost use Rattle.mill_said.specs.declared.fault.NgcFault.TheVariants as faults;
+ghost use Rattle.mill_said.specs.Bounds.{FitsSaid};
+ghost use Rattle.mill_block.specs.inner.Bounds.{Stays};
 
-use crate::fault::NgcFault;
-use crate::numbers::{is_at_or_over, units_of};
-use crate::profile::Mode;
 use crate::progress::{Known, Progress};
-use crate::said::Said;
 use mill_base::{Kind, MAX_MOVES, Move, Pt3, Unit};
+use mill_said::{Mode, NgcFault, Said, is_at_or_over, units_of};
 use mill_words::Num;
 
 impl Progress {

@@ -10,21 +10,19 @@ ghost use Rattle.std.specs.Prelude.{IfSome, IsTrue, unwrap_or};
 ghost use Rattle.mill_base.specs.Ranges.{IsInUnitRange};
 ghost use Rattle.mill_base.specs.Units.{places_of};
 ghost use Rattle.mill_words.specs.Words.{FitsNum, FitsWord};
-ghost use Rattle.mill_block.specs.declared.profile.Mode.TheVariants.{On};
-ghost use Rattle.mill_block.specs.declared.said.Said.{Said};
+ghost use Rattle.mill_said.specs.declared.profile.Mode.TheVariants.{On};
+ghost use Rattle.mill_said.specs.declared.said.Said.{Said};
 ghost use Rattle.mill_block.specs.Lines.{line_begun};
 ghost use Rattle.mill_block.specs.Motion.{known_of};
-ghost use Rattle.mill_block.specs.Numbers.{is_over_zero as is_over_zero_number};
+ghost use Rattle.mill_said.specs.Numbers.{is_over_zero as is_over_zero_number};
 ghost use Rattle.mill_block.specs.declared.progress.Known.TheVariants.{All};
 ghost use Rattle.mill_block.specs.inner.PlainMoves.{Goes, HasDrive, IsAxis, IsCapital, IsEnd};
 ghost use Rattle.mill_block.specs.inner.PlainMoves.{IsMotion, IsReady, IsUnits, LineMovesTo};
 ghost use Rattle.mill_block.specs.inner.PlainMoves.{MovesTo, Says, TakesPlain, mode_of, words_in};
 
-use crate::numbers::{is_over_zero, signed, units_of};
-use crate::profile::Mode;
 use crate::progress::{Frame, Known, Progress};
-use crate::rules::Words;
 use mill_base::{Kind, MAX_MOVES, Pt3, Unit};
+use mill_said::{Mode, Words, is_over_zero, signed, units_of};
 use mill_words::{LineWords, Num, Word, plain_number_behind};
 
 /// What the words of such a line have said so far.

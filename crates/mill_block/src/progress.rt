@@ -2,12 +2,9 @@
 ghost use Rattle.std.specs.Prelude.{◌≡◌, IsTrue, OnOk, IfErr, Ok, Err};
 ghost use Rattle.mill_block.specs.Drives.{driven, drive_fault, full_drive};
 
-use crate::fault::NgcFault;
 use crate::machine::Machine;
-use crate::profile::Mode;
-use crate::rules::Rules;
-use crate::said::Said;
 use mill_base::{Kind, Pt3, Unit};
+use mill_said::{Mode, NgcFault, Rules, Said};
 
 /// Whether a program is framed by `%` lines.
 #[derive(Clone, Copy)]

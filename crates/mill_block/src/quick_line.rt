@@ -11,10 +11,10 @@ ghost use Rattle.mill_block.specs.Lines.{line_begun};
 ghost use Rattle.mill_block.specs.inner.PlainMoves.{EndsLine, IsReady, LineMovesTo, ReadTo};
 ghost use Rattle.mill_block.specs.inner.PlainMoves.{ReadsAxis, in_order};
 
-use crate::numbers::is_over_zero;
 use crate::plain_move::{PlainMove, kind_in, take_motion, whole_units};
 use crate::progress::Progress;
 use mill_base::{Kind, Pt3, Unit};
+use mill_said::is_over_zero;
 use mill_words::{decimal_behind, digit_behind, plain_number_behind};
 
 /// The motion that a line names, if it names one, and the place behind its word.

@@ -2,6 +2,8 @@ pub mod Products
 pub mod Stored
 pub mod Nearest
 pub mod Near
+pub mod Besides
+pub mod Nanos
 pub mod Depths
 pub mod Joining
 pub mod Sinking

@@ -60,7 +60,7 @@ turned true (suc k) per q w some e = ap (λ t. neg_ℤ (pos t)) e
 tens : (s : ℕ) → 0 < 10 ^ s
 tens s = omega (arith, one-le-pow s 10 (omega arith))
 
-whole : (s : ℕ) → s ≤ 18 → 10 ^ s * 10 ^ (18 - s) ≡ 10 ^ 18
+pub whole : (s : ℕ) → s ≤ 18 → 10 ^ s * 10 ^ (18 - s) ≡ 10 ^ 18
 whole s le =
     let sum : s + (18 - s) ≡ 18 = omega arith in
     sym (pow-add 10 s (18 - s)) ∙ ap (λ t. 10 ^ t) sum

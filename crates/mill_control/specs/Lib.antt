@@ -1,6 +1,8 @@
 pub mod Lengths
 pub mod Rounding
+pub mod Unrounded
 pub mod Places
+pub mod Planes
 pub mod Offsets
 pub mod Holes
 pub mod Drilled

@@ -73,12 +73,12 @@ abbrev pub is_known : Height → Bool
 is_known Known = true
 is_known other = false
 
--- a hole is drilled where all is known
-abbrev pub hole_allows : Place → Naming → Bool
-hole_allows p n = not n.drills || (p.across && is_known p.height)
+-- a hole and an arc come where all is known
+abbrev pub whole_allows : Place → Naming → Bool
+whole_allows p n = not n.needs_place || (p.across && is_known p.height)
 
 abbrev pub allows : Place → Naming → Bool
-allows p n = (height_allows p.height n && low_allows p n) && (across_allows p n && hole_allows p n)
+allows p n = (height_allows p.height n && low_allows p n) && (across_allows p n && whole_allows p n)
 
 -- what is known behind it
 abbrev pub behind : Place → Naming → Place

@@ -83,7 +83,7 @@ pub(crate) fn rounded_parts(parts: i128, per: u64) -> i128
 
 // A number of lengths, or of their parts, in units or parts of these.
 #[tactic(auto, using(crate::proofs::Products::times_most))]
-fn times(number: u128, per: u64) -> u128
+pub(crate) fn times(number: u128, per: u64) -> u128
     requires number { number ≤ 10 ^ 26 }
     requires per { per ≤ 25400 }
     ensures value { result ≡ number * per }
@@ -116,7 +116,7 @@ fn nearest(number: u128, parts: u128) -> u128
 }
 
 #[tactic(auto, using(crate::proofs::Products::ten_most, crate::proofs::Products::ten_least))]
-fn power(scale: u8) -> u128
+pub(crate) fn power(scale: u8) -> u128
     requires { scale ≤ 18 }
     ensures value { result ≡ 10 ^ scale }
     ensures some { 1 ≤ result }

@@ -4,7 +4,7 @@ ghost use Rattle.mill_control.specs.Places.{nowhere, other_length as other_lengt
 ghost use Rattle.mill_control.specs.Places.{other_zero as other_zero_of, raised as raised_of};
 ghost use Rattle.mill_control.specs.Places.{may_park as may_park_at, parked as parked_of};
 ghost use Rattle.mill_control.specs.Places.{unsure as unsure_of, height_allows, low_allows};
-ghost use Rattle.mill_control.specs.Places.{across_allows, hole_allows, is_over, is_under};
+ghost use Rattle.mill_control.specs.Places.{across_allows, whole_allows, is_over, is_under};
 ghost use Rattle.mill_control.specs.Places.{allows as allows_by, behind as behind_of};
 
 /// What is known of the height of the tool's tip.
@@ -31,8 +31,8 @@ pub struct Place {
 pub struct Naming {
     /// Its mode is a rapid's.
     pub rapid: bool,
-    /// Its mode is a drilling cycle's.
-    pub drills: bool,
+    /// It is a hole or an arc: it comes only where all of the place is known.
+    pub needs_place: bool,
     pub x: bool,
     pub y: bool,
     /// Whether its Z, if it has one, is at or over the safe height.
@@ -103,7 +103,7 @@ impl Place {
         ensures { result ≡ allows_by self naming }
     {
         (self.height_allows(naming) && self.low_allows(naming))
-            && (self.across_allows(naming) && self.hole_allows(naming))
+            && (self.across_allows(naming) && self.whole_allows(naming))
     }
 
     // By what is known of the height: straight up first, and no feed from one that is only high.
@@ -135,11 +135,11 @@ impl Place {
         self.across || ((naming.x && naming.y) || !(naming.x || naming.y))
     }
 
-    // A hole is drilled where all is known.
-    fn hole_allows(self, naming: Naming) -> bool
-        ensures { result ≡ hole_allows self naming }
+    // A hole and an arc come where all is known.
+    fn whole_allows(self, naming: Naming) -> bool
+        ensures { result ≡ whole_allows self naming }
     {
-        !naming.drills || (self.across && matches!(self.height, Height::Known))
+        !naming.needs_place || (self.across && matches!(self.height, Height::Known))
     }
 
     /// What is known behind such a line.

@@ -2,7 +2,7 @@
 use Rattle.std.proofs.Common.{◌≡◌, ap, ◌∙◌}
 use Rattle.std.specs.Prelude.{ℕ, List, map}
 use Rattle.mill_job.specs.Columns.{home}
-use Rattle.mill_block.specs.declared.rules.Rules.{Rules}
+use Rattle.mill_said.specs.declared.rules.Rules.{Rules}
 use Rattle.mill_load.specs.Programs.{dialect_of}
 use Rattle.mill_load.proofs.Asked.{asks_start, may_have}
 use Rattle.mill_ngc.specs.Programs.{program_of}

@@ -8,7 +8,7 @@ use Rattle.mill_job.specs.declared.fields.JobFields.{JobFields}
 use Rattle.mill_job.proofs.OneAnswer.{one_answer}
 use Rattle.mill_base.specs.declared.motion.Move.{Move}
 use Rattle.mill_ngc.specs.Pieces.{Reading, Going, Failed, answer, at_end, last_answer}
-use Rattle.mill_block.specs.declared.fault.NgcFault.{NgcFault}
+use Rattle.mill_said.specs.declared.fault.NgcFault.{NgcFault}
 use Rattle.mill_ffi_data.specs.declared.fault.Fault.{Fault}
 use Rattle.mill_ffi_data.specs.declared.fault.Fault.TheVariants as fault
 use Rattle.mill_ffi_data.specs.declared.raw.RawVerdict.{RawVerdict}

@@ -11,8 +11,8 @@ use Rattle.mill_job.specs.declared.fault.JobFault.TheVariants as job_fault
 use Rattle.mill_job.specs.declared.fields.JobFields.{JobFields}
 use Rattle.mill_load.specs.Programs.{SaysMoves, rules_of}
 use Rattle.mill_ngc.specs.Programs.{program_of}
-use Rattle.mill_block.specs.declared.fault.NgcFault.{NgcFault}
-use Rattle.mill_block.specs.declared.fault.NgcFault.TheVariants as program_fault
+use Rattle.mill_said.specs.declared.fault.NgcFault.{NgcFault}
+use Rattle.mill_said.specs.declared.fault.NgcFault.TheVariants as program_fault
 use Rattle.mill_part.specs.Tops.{IsTop}
 use Rattle.mill_stl.specs.Parts.{part_of}
 use Rattle.mill_stl.specs.declared.fault.StlFault.{StlFault}

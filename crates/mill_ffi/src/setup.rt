@@ -2,7 +2,7 @@
 ghost use Rattle.std.specs.Prelude.{◌≡◌, ◌≢◌, Ok, Err, IfOk, IfErr, IfSome, IfNone};
 ghost use Rattle.mill_base.specs.Covers.{IsUnder};
 ghost use Rattle.mill_base.specs.Ranges.{IsInUnitRange};
-ghost use Rattle.mill_block.specs.declared.fault.NgcFault.TheVariants as program_fault;
+ghost use Rattle.mill_said.specs.declared.fault.NgcFault.TheVariants as program_fault;
 ghost use Rattle.mill_ffi.specs.inner.Reading.{IsFitPart, IsHighFor, IsJobCause, IsPartCause, IsPartText, IsProgramCause, IsUnfitPart};
 ghost use Rattle.mill_ffi.specs.Judged.{IsSetupCause, ReadsSetup, fault_of_job, line_of_program, untold};
 ghost use Rattle.mill_ffi_data.specs.declared.fault.Fault.TheVariants as fault;

@@ -9,7 +9,7 @@ use Rattle.mill_base.specs.declared.limits.TheConstants.{MAX_MOVES}
 use Rattle.mill_base.specs.declared.motion.Move.{Move}
 use Rattle.mill_base.specs.declared.points.Pt3.{Pt3}
 use Rattle.mill_base.specs.declared.unit.Unit.{Unit as LengthUnit}
-use Rattle.mill_block.specs.declared.rules.Rules.{Rules}
+use Rattle.mill_said.specs.declared.rules.Rules.{Rules}
 use Rattle.mill_job.specs.Habits.{run_by}
 use Rattle.mill_job.specs.declared.habits.Rapids.{Rapids}
 use Rattle.mill_job.specs.declared.habits.Rapids.TheVariants.{Straight, Axes}

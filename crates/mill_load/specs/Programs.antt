@@ -2,11 +2,11 @@
 use Rattle.std.specs.Prelude.{◌≡◌, ℕ, ℤ, pos, nat_abs, ◌-ℤ◌, int_le, Bool, true, false, if◌then◌else◌, List, Ok, Err}
 use Rattle.mill_base.specs.declared.motion.Move.{Move}
 use Rattle.mill_ngc.specs.Programs.{program_of}
-use Rattle.mill_block.specs.declared.fault.NgcFault.{NgcFault}
-use Rattle.mill_block.specs.declared.rules.Control.{Control}
-use Rattle.mill_block.specs.declared.rules.Rules.{Rules}
-use Rattle.mill_block.specs.declared.rules.Words.{Words as Dialect}
-use Rattle.mill_block.specs.declared.rules.Words.TheVariants as dialect
+use Rattle.mill_said.specs.declared.fault.NgcFault.{NgcFault}
+use Rattle.mill_said.specs.declared.rules.Control.{Control}
+use Rattle.mill_said.specs.declared.rules.Rules.{Rules}
+use Rattle.mill_said.specs.declared.rules.Words.{Words as Dialect}
+use Rattle.mill_said.specs.declared.rules.Words.TheVariants as dialect
 use Rattle.mill_job.specs.declared.fields.JobFields.{JobFields}
 use Rattle.mill_job.specs.Columns.{home}
 use Rattle.mill_job.specs.Habits.{clearance_of, is_elsewhere, run_by}

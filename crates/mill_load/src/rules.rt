@@ -5,8 +5,8 @@ ghost use Rattle.mill_load.specs.Programs.{are_one, change_raises, control_of, d
 ghost use Rattle.mill_load.specs.Programs.{machine_slack as machine_slack_of, rounds_text};
 ghost use Rattle.mill_load.specs.Programs.{rules_of};
 
-use mill_block::{Control, Rules, Words as Dialect};
 use mill_job::{Job, Start, ToolLengths, Words};
+use mill_said::{Control, Rules, Words as Dialect};
 
 /// So many units of the slack are the text's, where there are as many: its numbers are rounded to
 /// the grid then.

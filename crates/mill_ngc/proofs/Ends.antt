@@ -3,7 +3,7 @@ use Rattle.std.proofs.Common.{◌≡◌, ℕ, Bool, true, false, cond, eqb, List
 use Rattle.std.proofs.lemmas.Bool.{eqb-true}
 use Rattle.std.specs.Prelude.{⊤, Result, Ok, Err}
 use Rattle.mill_base.specs.declared.motion.Move.{Move}
-use Rattle.mill_block.specs.declared.fault.NgcFault.{NgcFault}
+use Rattle.mill_said.specs.declared.fault.NgcFault.{NgcFault}
 use Rattle.mill_ngc.specs.Programs.{put_first, lines_of}
 use Rattle.mill_ngc.specs.Pieces.{Reading, after_whole, after_lines, fed, at_end, line_so_far, told}
 use Rattle.mill_ngc.specs.Lines.{with_ends}

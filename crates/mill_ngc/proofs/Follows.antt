@@ -11,24 +11,24 @@ use Rattle.mill_words.specs.Lines.{line_of}
 use Rattle.mill_words.specs.Words.{Line, is_blank as is_blank_line}
 use Rattle.mill_block.proofs.RiseLemmas.{rises}
 use Rattle.mill_block.specs.Drives.{driven_or_fault}
-use Rattle.mill_block.specs.Lines.{acted_by, after_line, after_words, has_frame, in_frame, is_percent, line_begun, start_at, with_line, with_percent, words_or_fault}
+use Rattle.mill_block.specs.Lines.{acted_by, after_line, after_words, has_frame, in_frame, is_percent, line_begun, settled_before, start_at, with_line, with_percent, words_or_fault}
 use Rattle.mill_block.specs.MachineLines.{machine_acted}
-use Rattle.mill_block.specs.MachineSaid.{told_line}
+use Rattle.mill_said.specs.MachineSaid.{told_line}
 use Rattle.mill_block.specs.Motion.{acted, began, gone, known_of, made_move, may_come, moved, moved_by, settled, target}
-use Rattle.mill_block.specs.Said.{◌>>=◌, has_axis, has_motion, said_by}
-use Rattle.mill_block.specs.declared.fault.NgcFault.{NgcFault}
-use Rattle.mill_block.specs.declared.fault.NgcFault.TheVariants as fault
-use Rattle.mill_block.specs.declared.profile.Mode.{Mode}
-use Rattle.mill_block.specs.declared.profile.Mode.TheVariants.{Off, On}
+use Rattle.mill_said.specs.Said.{◌>>=◌, has_axis, has_motion, said_by}
+use Rattle.mill_said.specs.declared.fault.NgcFault.{NgcFault}
+use Rattle.mill_said.specs.declared.fault.NgcFault.TheVariants as fault
+use Rattle.mill_said.specs.declared.profile.Mode.{Mode}
+use Rattle.mill_said.specs.declared.profile.Mode.TheVariants.{Off, On}
 use Rattle.mill_block.specs.declared.progress.Frame.{Frame}
 use Rattle.mill_block.specs.declared.progress.Frame.TheVariants.{Unknown, Framed, Plain}
 use Rattle.mill_block.specs.declared.progress.Known.{Known}
 use Rattle.mill_block.specs.declared.progress.Known.TheVariants.{Nothing, Height, All}
 use Rattle.mill_block.specs.declared.progress.Progress.{Progress}
-use Rattle.mill_block.specs.declared.rules.Rules.{Rules}
-use Rattle.mill_block.specs.declared.rules.Words.{Words}
-use Rattle.mill_block.specs.declared.rules.Words.TheVariants.{Strict, Machine}
-use Rattle.mill_block.specs.declared.said.Said.{Said}
+use Rattle.mill_said.specs.declared.rules.Rules.{Rules}
+use Rattle.mill_said.specs.declared.rules.Words.{Words}
+use Rattle.mill_said.specs.declared.rules.Words.TheVariants.{Strict, Machine}
+use Rattle.mill_said.specs.declared.said.Said.{Said}
 use Rattle.mill_ngc.specs.Pieces.{FollowOn}
 use Rattle.mill_ngc.specs.Programs.{lines_of, moves_from, program_of}
 use Rattle.mill_ngc.proofs.Goings.{Goes, all_known, goes_if, goes_made, goes_none, goes_then, goes_unless, goes_with}
@@ -76,7 +76,7 @@ goes_acted p s =
 
 goes_words_of : (words : Words) (p : Progress) (l : Line) → Goes (known_of p) p.here p.clear p.rules (acted_by words p l)
 goes_words_of Strict p l = goes_then (known_of p) p.here p.clear p.rules (said_by p.line p.positioned l) (acted p) (goes_acted p)
-goes_words_of (Machine c) p l = goes_then (known_of p) p.here p.clear p.rules (told_line c p l) (machine_acted c p) (goes_machine c p)
+goes_words_of (Machine c) p l = goes_then (known_of p) p.here p.clear p.rules (told_line c (settled_before p) l) (machine_acted c p) (goes_machine c p)
 
 goes_words : (p : Progress) (l : Line) → Goes (known_of p) p.here p.clear p.rules (after_words p l)
 unfolding after_words

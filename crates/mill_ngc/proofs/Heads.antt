@@ -15,15 +15,15 @@ use Rattle.mill_words.specs.declared.word.Word.{Word}
 use Rattle.mill_block.proofs.RiseLemmas.{signed-times}
 use Rattle.mill_block.specs.Lines.{after_line, after_words}
 use Rattle.mill_block.specs.Motion.{acted, moved, target}
-use Rattle.mill_block.specs.Numbers.{is_at_or_over, signed, whole_of}
-use Rattle.mill_block.specs.Profile.{entry_of}
-use Rattle.mill_block.specs.Said.{after_entry, said_by, said_from}
-use Rattle.mill_block.specs.declared.profile.Mode.TheVariants.{Off, On}
+use Rattle.mill_said.specs.Numbers.{is_at_or_over, signed, whole_of}
+use Rattle.mill_said.specs.Profile.{entry_of}
+use Rattle.mill_said.specs.Said.{after_entry, said_by, said_from}
+use Rattle.mill_said.specs.declared.profile.Mode.TheVariants.{Off, On}
 use Rattle.mill_block.specs.declared.progress.Known.TheVariants.{Nothing, Height}
-use Rattle.mill_block.specs.declared.said.Said.{Said}
+use Rattle.mill_said.specs.declared.said.Said.{Said}
 use Rattle.mill_ngc.specs.Programs.{lines_of, moves_from, program_of}
 use Rattle.mill_ngc.specs.Readings.{rules_with}
-use Rattle.mill_block.specs.declared.rules.Words.TheVariants.{Strict}
+use Rattle.mill_said.specs.declared.rules.Words.TheVariants.{Strict}
 use Rattle.mill_ngc.specs.Writing.{as_written, head_moves, stay}
 use Rattle.mill_ngc.proofs.MoveLines.{IsLine, IsMoveLine, axis_of, axis_units-num, end_lines, going, known_to, motion_of, moves_from-header, moves_from-moves, not_long, units_num}
 

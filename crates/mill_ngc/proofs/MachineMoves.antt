@@ -25,27 +25,28 @@ use Rattle.mill_control.specs.declared.lengths.LengthUnit.TheVariants.{Millimetr
 use Rattle.mill_control.specs.declared.place.Height.TheVariants.{Known as Sure}
 use Rattle.mill_control.specs.declared.place.Naming.{Naming}
 use Rattle.mill_control.specs.declared.place.Place.{Place}
-use Rattle.mill_block.specs.declared.fault.NgcFault.{NgcFault}
-use Rattle.mill_block.specs.declared.fault.NgcFault.TheVariants as fault
+use Rattle.mill_said.specs.declared.before.Before.{Before}
+use Rattle.mill_said.specs.declared.fault.NgcFault.{NgcFault}
+use Rattle.mill_said.specs.declared.fault.NgcFault.TheVariants as fault
 use Rattle.mill_block.specs.declared.machine.Machine.{Machine}
-use Rattle.mill_block.specs.declared.machine_said.MachineSaid.{MachineSaid}
-use Rattle.mill_block.specs.declared.machine_said.Motion.TheVariants.{Goes}
-use Rattle.mill_block.specs.declared.profile.Mode.{Mode}
-use Rattle.mill_block.specs.declared.profile.Mode.TheVariants.{Off, On}
+use Rattle.mill_said.specs.declared.machine_said.MachineSaid.{MachineSaid}
+use Rattle.mill_said.specs.declared.machine_said.Motion.TheVariants.{Goes}
+use Rattle.mill_said.specs.declared.profile.Mode.{Mode}
+use Rattle.mill_said.specs.declared.profile.Mode.TheVariants.{Off, On}
 use Rattle.mill_block.specs.declared.progress.Frame.TheVariants.{Framed}
 use Rattle.mill_block.specs.declared.progress.Known.{Known}
 use Rattle.mill_block.specs.declared.progress.Known.TheVariants.{Nothing, All}
 use Rattle.mill_block.specs.declared.progress.Progress.{Progress}
-use Rattle.mill_block.specs.declared.rules.Control.{Control}
-use Rattle.mill_block.specs.declared.rules.Words.TheVariants.{Machine as MachineWords}
+use Rattle.mill_said.specs.declared.rules.Control.{Control}
+use Rattle.mill_said.specs.declared.rules.Words.TheVariants.{Machine as MachineWords}
 use Rattle.mill_block.specs.Drives.{no_drive}
-use Rattle.mill_block.specs.Lines.{after_words, after_line, is_percent, start_at}
+use Rattle.mill_block.specs.Lines.{after_words, after_line, is_percent, settled_before, start_at}
 use Rattle.mill_block.specs.MachineLines.{Done, acts_by, gone_to, machine_acted, machine_behind, machine_done, names_by, naming_of, target_for, units_for, with_place, with_stop}
-use Rattle.mill_block.specs.MachineSaid.{nothing_told, told_from, told_line, told_row}
+use Rattle.mill_said.specs.MachineSaid.{nothing_told, told_from, told_line, told_row}
 use Rattle.mill_block.specs.MachineSettings.{machine_begun, settled_for}
-use Rattle.mill_block.specs.MachineTable.{row_of, tenths_of}
-use Rattle.mill_block.specs.Numbers.{whole_of}
-use Rattle.mill_block.specs.Said.{◌>>=◌}
+use Rattle.mill_said.specs.MachineTable.{row_of, tenths_of}
+use Rattle.mill_said.specs.Numbers.{whole_of}
+use Rattle.mill_said.specs.Said.{◌>>=◌}
 use Rattle.mill_ngc.specs.Programs.{lines_of, moves_from, program_of}
 use Rattle.mill_ngc.specs.Readings.{rules_with}
 use Rattle.mill_ngc.specs.Writing.{as_written, head_moves, stay, written_as}
@@ -95,18 +96,18 @@ across_told unit p = record nothing_told {
   y = Some (units_num unit p.y);
 }
 
-told_line-move : (c : Control) (p : Progress) (unit : Unit) (kind : Kind) (from to : Pt3)
+told_line-move : (c : Control) (p : Before) (unit : Unit) (kind : Kind) (from to : Pt3)
     → told_line c p (record { slash = false; numbered = false; words = move_words unit (record { kind = kind; from = from; to = to }) }) ≡ Ok (move_told unit (written_as kind) to)
 unfolding move_told told_from told_row row_of tenths_of whole_of
 told_line-move c p unit Rapid from to = refl
 told_line-move c p unit Feed from to = refl
 told_line-move c p unit Dogleg from to = refl
 
-told_line-up : (c : Control) (p : Progress) (unit : Unit) (at : Pt3) → told_line c p (record { slash = false; numbered = false; words = up_words unit at }) ≡ Ok (up_told unit at)
+told_line-up : (c : Control) (p : Before) (unit : Unit) (at : Pt3) → told_line c p (record { slash = false; numbered = false; words = up_words unit at }) ≡ Ok (up_told unit at)
 unfolding up_told told_from told_row row_of tenths_of whole_of
 told_line-up c p unit at = refl
 
-told_line-across : (c : Control) (p : Progress) (unit : Unit) (at : Pt3) → told_line c p (record { slash = false; numbered = false; words = across_words unit at }) ≡ Ok (across_told unit at)
+told_line-across : (c : Control) (p : Before) (unit : Unit) (at : Pt3) → told_line c p (record { slash = false; numbered = false; words = across_words unit at }) ≡ Ok (across_told unit at)
 unfolding across_told told_from told_row row_of tenths_of whole_of
 told_line-across c p unit at = refl
 
@@ -195,7 +196,7 @@ settled-across c clear unit here p line = by c.one_length c.change_raises
 -- ---- where lines lead
 
 -- where all is known, every line may come that drills no hole
-allows-known : (rapid x y : Bool) (z : Option Bool) → allows (record { across = true; height = Sure }) (record { rapid = rapid; drills = false; x = x; y = y; z = z }) ≡ true
+allows-known : (rapid x y : Bool) (z : Option Bool) → allows (record { across = true; height = Sure }) (record { rapid = rapid; needs_place = false; x = x; y = y; z = z }) ≡ true
 allows-known rapid x y None = refl
 allows-known rapid x y (Some true) = refl
 allows-known rapid x y (Some false) = refl
@@ -262,7 +263,7 @@ at-itself (negsuc n) = grind (arith, nat_tests)
 
 -- a rapid straight up to a height may come first, where that is the safe one
 up_naming : Bool → Naming
-up_naming over = record { rapid = true; drills = false; x = false; y = false; z = Some over }
+up_naming over = record { rapid = true; needs_place = false; x = false; y = false; z = Some over }
 
 behind_up : Bool → Machine → Machine
 behind_up over m = record m { place = behind nowhere (up_naming over); named = named m.named m.offsets true false; has_named = m.has_named || not over }
@@ -326,7 +327,7 @@ unfolding after_line after_words
 running_line-move c clear unit m mode positioned moves number line fits few is_line =
     rw (not_long (length line) is_line.short, is_line.other, is_line.words_are)
     (ap (λ (s : Result MachineSaid NgcFault). s >>= λ s. machine_acted c (running c clear All machine_there unit m.from mode positioned moves (number + 1)) s)
-    (told_line-move c (running c clear All machine_there unit m.from mode positioned moves (number + 1)) unit m.kind m.from m.to)
+    (told_line-move c (settled_before (running c clear All machine_there unit m.from mode positioned moves (number + 1))) unit m.kind m.from m.to)
     ∙ machine-move c clear unit m.from mode positioned moves (number + 1) (written_as m.kind) m.to fits few)
 
 running_line-up : (c : Control) (unit : Unit) (p : Pt3) (number : ℕ) (line : List ℕ) → IsInUnitRange unit p → IsLine (up_words unit p) line
@@ -335,7 +336,7 @@ unfolding after_line after_words
 running_line-up c unit p number line fits is_line =
     rw (not_long (length line) is_line.short, is_line.other, is_line.words_are)
     (ap (λ (s : Result MachineSaid NgcFault). s >>= λ s. machine_acted c (running c p.z Nothing machine_begun unit p Off false 0 (number + 1)) s)
-    (told_line-up c (running c p.z Nothing machine_begun unit p Off false 0 (number + 1)) unit p)
+    (told_line-up c (settled_before (running c p.z Nothing machine_begun unit p Off false 0 (number + 1))) unit p)
     ∙ machine-up c unit p (number + 1) fits)
 
 running_line-across : (c : Control) (unit : Unit) (p : Pt3) (number : ℕ) (line : List ℕ) → IsInUnitRange unit p → IsLine (across_words unit p) line
@@ -344,7 +345,7 @@ unfolding after_line after_words
 running_line-across c unit p number line fits is_line =
     rw (not_long (length line) is_line.short, is_line.other, is_line.words_are)
     (ap (λ (s : Result MachineSaid NgcFault). s >>= λ s. machine_acted c (running c p.z Nothing machine_up unit p (On Rapid) true 0 (number + 1)) s)
-    (told_line-across c (running c p.z Nothing machine_up unit p (On Rapid) true 0 (number + 1)) unit p)
+    (told_line-across c (settled_before (running c p.z Nothing machine_up unit p (On Rapid) true 0 (number + 1))) unit p)
     ∙ machine-across c unit p (number + 1) fits)
 
 -- ---- the program

@@ -21,22 +21,22 @@ use Rattle.mill_block.proofs.NamingLemmas.{drills_known, named_rises}
 use Rattle.mill_block.specs.Drives.{driven_or_fault}
 use Rattle.mill_block.specs.Kept.{begins}
 use Rattle.mill_block.specs.MachineLines.{Done, acts_by, arrived, axis_done, coordinate_for, drilled, drills_hole, gone_to, gone_up, hole_for, hole_of, idles, is_idle, is_safe, machine_acted, machine_behind, machine_done, names_by, names_height, naming_of, park, parks, peck_fits, place_of, rise, rounded_or, series_for, stands, still_at, target_for, up_fits, waits, went, with_place, with_stop}
-use Rattle.mill_block.specs.MachineSaid.{names_axis}
+use Rattle.mill_said.specs.MachineSaid.{names_axis}
 use Rattle.mill_block.specs.MachineSettings.{has_lengths, per_of, settled_for}
 use Rattle.mill_block.specs.Motion.{known_of, made_move}
-use Rattle.mill_block.specs.Said.{◌>>=◌}
-use Rattle.mill_block.specs.declared.fault.NgcFault.{NgcFault}
-use Rattle.mill_block.specs.declared.fault.NgcFault.TheVariants as fault
+use Rattle.mill_said.specs.Said.{◌>>=◌}
+use Rattle.mill_said.specs.declared.fault.NgcFault.{NgcFault}
+use Rattle.mill_said.specs.declared.fault.NgcFault.TheVariants as fault
 use Rattle.mill_block.specs.declared.machine.Machine.{Machine}
-use Rattle.mill_block.specs.declared.machine_said.MachineSaid.{MachineSaid}
-use Rattle.mill_block.specs.declared.machine_said.Up.{Up}
-use Rattle.mill_block.specs.declared.profile.Mode.{Mode}
-use Rattle.mill_block.specs.declared.profile.Mode.TheVariants.{Off, On}
+use Rattle.mill_said.specs.declared.machine_said.MachineSaid.{MachineSaid}
+use Rattle.mill_said.specs.declared.machine_said.Up.{Up}
+use Rattle.mill_said.specs.declared.profile.Mode.{Mode}
+use Rattle.mill_said.specs.declared.profile.Mode.TheVariants.{Off, On}
 use Rattle.mill_block.specs.declared.progress.Known.{Known}
 use Rattle.mill_block.specs.declared.progress.Known.TheVariants.{Nothing, Height, All}
 use Rattle.mill_block.specs.declared.progress.Progress.{Progress}
-use Rattle.mill_block.specs.declared.rules.Control.{Control}
-use Rattle.mill_block.specs.declared.rules.Rules.{Rules}
+use Rattle.mill_said.specs.declared.rules.Control.{Control}
+use Rattle.mill_said.specs.declared.rules.Rules.{Rules}
 use Rattle.mill_ngc.proofs.Goings.{Goes, all_known, goes_if, goes_made, goes_none, goes_then, goes_unless, goes_with}
 use Rattle.mill_ngc.proofs.Ways.{GoesOn, same_height}
 

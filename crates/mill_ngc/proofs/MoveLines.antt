@@ -18,14 +18,14 @@ use Rattle.mill_words.specs.Marks.{marks_from}
 use Rattle.mill_words.specs.Lines.{grown_word, finished, started, read_marks, line_of}
 use Rattle.mill_words.specs.declared.word.Num.{Num}
 use Rattle.mill_words.specs.declared.word.Word.{Word}
-use Rattle.mill_block.specs.declared.profile.Mode.{Mode}
-use Rattle.mill_block.specs.declared.profile.Mode.TheVariants.{Off, On}
+use Rattle.mill_said.specs.declared.profile.Mode.{Mode}
+use Rattle.mill_said.specs.declared.profile.Mode.TheVariants.{Off, On}
 use Rattle.mill_block.specs.declared.progress.Frame.TheVariants.{Framed}
 use Rattle.mill_block.specs.declared.progress.Progress.{Progress}
-use Rattle.mill_block.specs.declared.said.Said.{Said}
-use Rattle.mill_block.specs.Numbers.{axis_units, is_on_grid, whole_units, whole_of}
-use Rattle.mill_block.specs.Profile.{entry_of}
-use Rattle.mill_block.specs.Said.{after_entry, said_from, said_by}
+use Rattle.mill_said.specs.declared.said.Said.{Said}
+use Rattle.mill_said.specs.Numbers.{axis_units, is_on_grid, whole_units, whole_of}
+use Rattle.mill_said.specs.Profile.{entry_of}
+use Rattle.mill_said.specs.Said.{after_entry, said_from, said_by}
 use Rattle.mill_block.specs.Motion.{target, moved, acted}
 use Rattle.mill_block.specs.Lines.{is_percent, after_words, after_line, start_at}
 use Rattle.mill_block.specs.MachineSettings.{machine_begun}
@@ -35,7 +35,7 @@ use Rattle.mill_block.specs.declared.progress.Known.TheVariants.{Nothing, All}
 use Rattle.mill_ngc.specs.Writing.{as_written, written_as}
 use Rattle.mill_ngc.specs.Programs.{moves_from}
 use Rattle.mill_ngc.specs.Readings.{rules_with}
-use Rattle.mill_block.specs.declared.rules.Words.TheVariants.{Strict}
+use Rattle.mill_said.specs.declared.rules.Words.TheVariants.{Strict}
 
 -- ---- the words of a move's line
 

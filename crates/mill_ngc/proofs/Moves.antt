@@ -19,7 +19,7 @@ use Rattle.mill_words.specs.declared.word.Word.{Word}
 use Rattle.mill_words.proofs.Spelled.{Spelled, IsSpelled, AreSpelled, spelling, more_text, word_of, line_of-spelled}
 use Rattle.mill_block.specs.Lines.{is_percent}
 use Rattle.mill_ngc.proofs.MoveLines.{IsLine, axis_of, motion_of}
-use Rattle.mill_block.specs.declared.rules.Words.TheVariants.{Strict, Machine}
+use Rattle.mill_said.specs.declared.rules.Words.TheVariants.{Strict, Machine}
 use Rattle.mill_ngc.proofs.Heads.{AreHead, across_words, program_of-moves, up_words}
 use Rattle.mill_ngc.proofs.MachineMoves.{program_of-running}
 use Rattle.mill_ngc.specs.Writing.{across_line, axis_word, ended, head_lines, head_moves, motion_word, move_line, program_lines, program_text, stay, up_line}

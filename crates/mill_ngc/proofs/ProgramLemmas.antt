@@ -6,15 +6,15 @@ use Rattle.mill_base.specs.Ranges.{IsInUnitRange, MoveInUnitRange, MovesInUnitRa
 use Rattle.mill_base.specs.declared.points.Pt3.{Pt3}
 use Rattle.mill_base.specs.declared.motion.Move.{Move}
 use Rattle.mill_base.specs.declared.unit.Unit.{Unit}
-use Rattle.mill_block.specs.declared.fault.NgcFault.{NgcFault}
+use Rattle.mill_said.specs.declared.fault.NgcFault.{NgcFault}
 use Rattle.mill_block.specs.declared.progress.Progress.{Progress}
-use Rattle.mill_block.specs.Said.{◌>>=◌}
+use Rattle.mill_said.specs.Said.{◌>>=◌}
 use Rattle.mill_block.specs.Lines.{line_begun, after_line, start_at}
 use Rattle.mill_ngc.specs.Programs.{moves_from}
 use Rattle.mill_block.specs.Kept.{Keeps}
 use Rattle.mill_ngc.specs.Pieces.{SoFar, AreSound}
 use Rattle.mill_ngc.proofs.Ways.{OnWay, on_way-line, same_height}
-use Rattle.mill_block.specs.declared.rules.Rules.{Rules}
+use Rattle.mill_said.specs.declared.rules.Rules.{Rules}
 
 -- ---- the meaning of the rest
 

@@ -16,13 +16,13 @@ use Rattle.mill_block.specs.MachineLines.{place_in}
 use Rattle.mill_block.specs.Motion.{known_of}
 use Rattle.mill_block.specs.RealWays.{IsForeseen, IsHeight, MayBeAt, MayGo}
 use Rattle.mill_block.specs.TextPaths.{FitsText, Way, text_line}
-use Rattle.mill_block.specs.declared.fault.NgcFault.{NgcFault}
+use Rattle.mill_said.specs.declared.fault.NgcFault.{NgcFault}
 use Rattle.mill_block.specs.declared.progress.Known.{Known}
 use Rattle.mill_block.specs.declared.progress.Known.TheVariants.{Nothing, Height, All as Whole}
 use Rattle.mill_block.specs.declared.progress.Progress.{Progress}
-use Rattle.mill_block.specs.declared.rules.Control.{Control}
-use Rattle.mill_block.specs.declared.rules.Rules.{Rules}
-use Rattle.mill_block.specs.declared.rules.Words.TheVariants.{Machine}
+use Rattle.mill_said.specs.declared.rules.Control.{Control}
+use Rattle.mill_said.specs.declared.rules.Rules.{Rules}
+use Rattle.mill_said.specs.declared.rules.Words.TheVariants.{Machine}
 use Rattle.mill_ngc.specs.Programs.{lines_of}
 use Rattle.mill_ngc.specs.RealWays.{BehindLine, MayRun, ProgramIsForeseen, UnlessEnded}
 use Rattle.mill_ngc.specs.TextPaths.{behind_line, in_parts, ways_from, ways_of}

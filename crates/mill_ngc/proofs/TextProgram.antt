@@ -9,14 +9,14 @@ use Rattle.mill_block.proofs.TextKept.{text_line_is}
 use Rattle.mill_block.proofs.TextLemmas.{near_whole}
 use Rattle.mill_block.specs.Lines.{after_line, start_at}
 use Rattle.mill_block.specs.Motion.{known_of}
-use Rattle.mill_block.specs.Said.{◌>>=◌}
+use Rattle.mill_said.specs.Said.{◌>>=◌}
 use Rattle.mill_block.specs.TextPaths.{FitsText, text_line}
-use Rattle.mill_block.specs.declared.fault.NgcFault.{NgcFault}
-use Rattle.mill_block.specs.declared.fault.NgcFault.TheVariants as fault
+use Rattle.mill_said.specs.declared.fault.NgcFault.{NgcFault}
+use Rattle.mill_said.specs.declared.fault.NgcFault.TheVariants as fault
 use Rattle.mill_block.specs.declared.progress.Progress.{Progress}
-use Rattle.mill_block.specs.declared.rules.Control.{Control}
-use Rattle.mill_block.specs.declared.rules.Rules.{Rules}
-use Rattle.mill_block.specs.declared.rules.Words.TheVariants.{Machine}
+use Rattle.mill_said.specs.declared.rules.Control.{Control}
+use Rattle.mill_said.specs.declared.rules.Rules.{Rules}
+use Rattle.mill_said.specs.declared.rules.Words.TheVariants.{Machine}
 use Rattle.mill_ngc.specs.Programs.{lines_of, moves_from, program_of}
 use Rattle.mill_ngc.specs.TextPaths.{ProgramIsRounded, behind_line, in_parts, ways_from, ways_of}
 use Rattle.mill_ngc.proofs.Follows.{goes_line}

@@ -15,7 +15,7 @@ use Rattle.mill_ngc.specs.inner.Walks.{HasWalked}
 use Rattle.mill_ngc.specs.declared.place.LineSpan.{LineSpan}
 use Rattle.mill_ngc.specs.declared.walk.Walk.{Walk}
 use Rattle.mill_ngc.proofs.Ends.{with_ends-push, with_ends-lines_of, moves-fed-feed, moves-told}
-use Rattle.mill_block.specs.declared.rules.Rules.{Rules}
+use Rattle.mill_said.specs.declared.rules.Rules.{Rules}
 
 -- a line of a text, with the lines before it and behind it, and what is read before it and with it
 pub record IsNext (start : Pt3) (unit : Unit) (rules : Rules) (text : List ℕ) (done : List (List ℕ)) (line : List ℕ) (rest : List (List ℕ)) (before after : Reading × List Move) : Type 0 where

@@ -13,7 +13,7 @@ use Rattle.mill_block.specs.Motion.{known_of}
 use Rattle.mill_block.specs.declared.progress.Known.{Known}
 use Rattle.mill_block.specs.declared.progress.Known.TheVariants.{Nothing, Height, All}
 use Rattle.mill_block.specs.declared.progress.Progress.{Progress}
-use Rattle.mill_block.specs.declared.rules.Rules.{Rules}
+use Rattle.mill_said.specs.declared.rules.Rules.{Rules}
 use Rattle.mill_ngc.specs.Pieces.{FollowOn}
 
 -- a line goes on where this was known of the place, which was this one: its moves follow on from there, or from where they end if the place wasn't known, and then it is no lower, or no lower than the safe height

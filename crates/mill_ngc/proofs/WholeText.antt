@@ -4,11 +4,11 @@ use Rattle.std.specs.Prelude.{⊤}
 use Rattle.mill_base.specs.declared.points.Pt3.{Pt3}
 use Rattle.mill_base.specs.declared.motion.Move.{Move}
 use Rattle.mill_base.specs.declared.unit.Unit.{Unit}
-use Rattle.mill_block.specs.declared.fault.NgcFault.{NgcFault}
+use Rattle.mill_said.specs.declared.fault.NgcFault.{NgcFault}
 use Rattle.mill_ngc.specs.Programs.{program_of}
 use Rattle.mill_ngc.specs.Pieces.{Reading, reading_at, fed, at_end, last_answer, told}
 use Rattle.mill_ngc.proofs.JoinLemmas.{ending, pieces_read_program}
-use Rattle.mill_block.specs.declared.rules.Rules.{Rules}
+use Rattle.mill_said.specs.declared.rules.Rules.{Rules}
 
 means : (start : Pt3) (unit : Unit) (rules : Rules) (text : List ℕ) (now : Reading × List Move) → now ≡ fed (reading_at start unit rules, []) text → ending now ≡ program_of start unit rules text
 means start unit rules text now all = ap ending all ∙ pieces_read_program start unit rules text

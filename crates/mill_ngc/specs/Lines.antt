@@ -6,7 +6,7 @@ use Rattle.mill_base.specs.declared.unit.Unit.{Unit}
 use Rattle.mill_ngc.specs.Pieces.{fed, reading_at}
 use Rattle.mill_ngc.specs.Programs.{lines_of}
 use Rattle.mill_ngc.specs.declared.place.LineSpan.{LineSpan}
-use Rattle.mill_block.specs.declared.rules.Rules.{Rules}
+use Rattle.mill_said.specs.declared.rules.Rules.{Rules}
 
 -- these lines as one text, each with a line feed behind it, which is 10
 abbrev pub with_ends : List (List ℕ) → List ℕ

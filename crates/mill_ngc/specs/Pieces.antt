@@ -7,14 +7,14 @@ use Rattle.mill_base.specs.declared.unit.Unit.{Unit}
 use Rattle.mill_base.specs.Motion.{Follow}
 use Rattle.mill_base.specs.Ranges.{IsInUnitRange, MovesInUnitRange}
 use Rattle.mill_control.specs.Drilled.{ends_at}
-use Rattle.mill_block.specs.declared.fault.NgcFault.{NgcFault}
-use Rattle.mill_block.specs.declared.fault.NgcFault.TheVariants as fault
+use Rattle.mill_said.specs.declared.fault.NgcFault.{NgcFault}
+use Rattle.mill_said.specs.declared.fault.NgcFault.TheVariants as fault
 use Rattle.mill_block.specs.declared.progress.Progress.{Progress}
 use Rattle.mill_block.specs.Lines.{after_line, start_at}
 use Rattle.mill_block.specs.Motion.{known_of}
 use Rattle.mill_block.specs.declared.progress.Known.TheVariants.{All}
 use Rattle.mill_ngc.specs.Programs.{lines_of, program_of}
-use Rattle.mill_block.specs.declared.rules.Rules.{Rules}
+use Rattle.mill_said.specs.declared.rules.Rules.{Rules}
 
 -- ---- the state of a reader
 

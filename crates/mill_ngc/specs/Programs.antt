@@ -3,12 +3,12 @@ use Rattle.std.specs.Prelude.{ℕ, ◌==◌, if◌then◌else◌, List, [], ◌�
 use Rattle.mill_base.specs.declared.points.Pt3.{Pt3}
 use Rattle.mill_base.specs.declared.motion.Move.{Move}
 use Rattle.mill_base.specs.declared.unit.Unit.{Unit}
-use Rattle.mill_block.specs.declared.fault.NgcFault.{NgcFault}
-use Rattle.mill_block.specs.declared.fault.NgcFault.TheVariants as fault
+use Rattle.mill_said.specs.declared.fault.NgcFault.{NgcFault}
+use Rattle.mill_said.specs.declared.fault.NgcFault.TheVariants as fault
 use Rattle.mill_block.specs.declared.progress.Progress.{Progress}
-use Rattle.mill_block.specs.Said.{◌>>=◌}
+use Rattle.mill_said.specs.Said.{◌>>=◌}
 use Rattle.mill_block.specs.Lines.{after_line, start_at}
-use Rattle.mill_block.specs.declared.rules.Rules.{Rules}
+use Rattle.mill_said.specs.declared.rules.Rules.{Rules}
 
 -- ---- lines
 

@@ -6,9 +6,9 @@ use Rattle.mill_base.specs.declared.motion.Move.{Move}
 use Rattle.mill_base.specs.declared.unit.Unit.{Unit}
 use Rattle.mill_base.specs.Motion.{Follow}
 use Rattle.mill_base.specs.Ranges.{MovesInUnitRange}
-use Rattle.mill_block.specs.declared.rules.Rules.{Rules}
-use Rattle.mill_block.specs.declared.rules.Words.{Words}
-use Rattle.mill_block.specs.declared.rules.Words.TheVariants.{Strict, Machine}
+use Rattle.mill_said.specs.declared.rules.Rules.{Rules}
+use Rattle.mill_said.specs.declared.rules.Words.{Words}
+use Rattle.mill_said.specs.declared.rules.Words.TheVariants.{Strict, Machine}
 use Rattle.mill_ngc.specs.Programs.{program_of}
 use Rattle.mill_ngc.specs.Writing.{as_written, head_moves}
 

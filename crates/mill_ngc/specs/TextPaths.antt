@@ -7,11 +7,11 @@ use Rattle.mill_base.specs.declared.points.Pt3.{Pt3}
 use Rattle.mill_base.specs.declared.unit.Unit.{Unit}
 use Rattle.mill_block.specs.Lines.{after_line, start_at}
 use Rattle.mill_block.specs.TextPaths.{parts, text_line}
-use Rattle.mill_block.specs.declared.fault.NgcFault.{NgcFault}
+use Rattle.mill_said.specs.declared.fault.NgcFault.{NgcFault}
 use Rattle.mill_block.specs.declared.progress.Progress.{Progress}
-use Rattle.mill_block.specs.declared.rules.Control.{Control}
-use Rattle.mill_block.specs.declared.rules.Rules.{Rules}
-use Rattle.mill_block.specs.declared.rules.Words.TheVariants.{Machine}
+use Rattle.mill_said.specs.declared.rules.Control.{Control}
+use Rattle.mill_said.specs.declared.rules.Rules.{Rules}
+use Rattle.mill_said.specs.declared.rules.Words.TheVariants.{Machine}
 use Rattle.mill_ngc.specs.Programs.{lines_of, program_of}
 
 -- a point in these parts

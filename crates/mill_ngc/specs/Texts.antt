@@ -1,7 +1,7 @@
 -- What a reader shows of its parts.
 use Rattle.std.specs.Prelude.{⊤, Option, Some, None}
 use Rattle.mill_base.specs.Ranges.{IsInUnitRange}
-use Rattle.mill_block.specs.declared.fault.NgcFault.{NgcFault}
+use Rattle.mill_said.specs.declared.fault.NgcFault.{NgcFault}
 use Rattle.mill_ngc.specs.declared.text_reader.TextReader.{TextReader}
 use Rattle.mill_ngc.specs.Pieces.{Reading, Going, Failed}
 

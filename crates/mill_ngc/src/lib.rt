@@ -20,7 +20,7 @@ mod unfinished;
 mod walk;
 
 pub use laws::{pieces_join, pieces_read_program, program_is_foreseen, program_is_rounded};
-pub use mill_block::{Control, NgcFault, Rules, Words};
+pub use mill_said::{Control, NgcFault, Rules, Words};
 pub use place::{LineSpan, line_words};
 pub use program::write_program;
 pub use reader::Reader;

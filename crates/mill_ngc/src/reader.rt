@@ -3,15 +3,15 @@ ghost use Rattle.std.specs.Prelude.{◌≡◌, ◌≢◌, ◌<◌, ◌≤◌, �
 ghost use Rattle.mill_base.specs.Ranges.{IsInUnitRange};
 ghost use Rattle.mill_base.specs.declared.points.Pt3.{Pt3};
 ghost use Rattle.mill_base.specs.declared.unit.Unit.{Unit};
-ghost use Rattle.mill_block.specs.declared.rules.Rules.{Rules};
+ghost use Rattle.mill_said.specs.declared.rules.Rules.{Rules};
 ghost use Rattle.mill_ngc.specs.Pieces.{Reading, reading_at, lines_read, fed, at_end, answer};
 ghost use Rattle.mill_ngc.specs.Pieces.{last_answer, IsFront, MovesSoFar, AreSound};
 ghost use Rattle.mill_ngc.specs.Texts.{shown, StandsInRange};
-ghost use Rattle.mill_block.specs.declared.fault.NgcFault.TheVariants as faults;
+ghost use Rattle.mill_said.specs.declared.fault.NgcFault.TheVariants as faults;
 
 use crate::text_reader::TextReader;
 use mill_base::{Move, Pt3, Unit};
-use mill_block::{NgcFault, Rules};
+use mill_said::{NgcFault, Rules};
 use std::marker::Model;
 
 /// Reads a program's text, which comes in pieces, cut anywhere, as moves.

@@ -4,10 +4,10 @@ ghost use Rattle.std.specs.Prelude.{OnErr, IfErr, Ok, Err};
 ghost use Rattle.mill_base.specs.Ranges.{IsInUnitRange};
 ghost use Rattle.mill_base.specs.declared.points.Pt3.{Pt3};
 ghost use Rattle.mill_base.specs.declared.unit.Unit.{Unit};
-ghost use Rattle.mill_block.specs.declared.rules.Rules.{Rules};
+ghost use Rattle.mill_said.specs.declared.rules.Rules.{Rules};
 ghost use Rattle.mill_block.specs.Lines.{after_line, start_at};
 ghost use Rattle.mill_block.specs.Kept.{AddsLine};
-ghost use Rattle.mill_block.specs.declared.fault.NgcFault.TheVariants as faults;
+ghost use Rattle.mill_said.specs.declared.fault.NgcFault.TheVariants as faults;
 ghost use Rattle.mill_ngc.specs.Pieces.{Failed, after_begun, fed, at_end, last_answer, IsFront};
 ghost use Rattle.mill_ngc.specs.Pieces.{SoFar, AreSound};
 ghost use Rattle.mill_ngc.specs.Texts.{reading_of};
@@ -15,7 +15,8 @@ ghost use Rattle.mill_ngc.specs.Texts.{reading_of};
 use crate::lines::split_line;
 use crate::unfinished::UnfinishedLine;
 use mill_base::{Move, Pt3, Unit};
-use mill_block::{LONGEST_LINE, LineReader, NgcFault, Rules};
+use mill_block::{LONGEST_LINE, LineReader};
+use mill_said::{NgcFault, Rules};
 
 /// What the whole lines of a text have settled, and the bytes of the line behind them.
 #[derive(Drop)]

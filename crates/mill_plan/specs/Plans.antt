@@ -9,7 +9,7 @@ use Rattle.mill_base.specs.Ranges.{MovesInUnitRange}
 use Rattle.mill_base.specs.declared.points.Pt3.{Pt3}
 use Rattle.mill_base.specs.declared.points.Tri.{Tri}
 use Rattle.mill_base.specs.declared.motion.Move.{Move}
-use Rattle.mill_block.specs.declared.rules.Words.{Words}
+use Rattle.mill_said.specs.declared.rules.Words.{Words}
 use Rattle.mill_job.specs.Columns.{home, column_x, column_y}
 use Rattle.mill_job.specs.Habits.{is_elsewhere, run_by}
 use Rattle.mill_job.specs.Solids.{inner_of}

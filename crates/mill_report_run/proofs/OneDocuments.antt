@@ -9,7 +9,7 @@ use Rattle.mill_base.specs.declared.points.Pt3.{Pt3}
 use Rattle.mill_base.specs.declared.points.Tri.{Tri}
 use Rattle.mill_base.specs.declared.unit.Unit.{Unit as LengthUnit}
 use Rattle.mill_block.specs.Lines.{after_line}
-use Rattle.mill_block.specs.declared.fault.NgcFault.{NgcFault}
+use Rattle.mill_said.specs.declared.fault.NgcFault.{NgcFault}
 use Rattle.mill_block.specs.declared.progress.Progress.{Progress}
 use Rattle.mill_document.specs.Details.{failing_data, left_column}
 use Rattle.mill_dexel.specs.Tops.{stock_after, uncut}
@@ -24,7 +24,7 @@ use Rattle.mill_load.specs.Programs.{rules_of}
 use Rattle.mill_load.specs.declared.load.LoadFault.TheVariants.{Memory, ReadFault, Unfit}
 use Rattle.mill_load.specs.declared.load.Unfit.{Unfit as UnfitFault}
 use Rattle.mill_ngc.proofs.JoinLemmas.{pieces_join}
-use Rattle.mill_block.specs.declared.rules.Rules.{Rules}
+use Rattle.mill_said.specs.declared.rules.Rules.{Rules}
 use Rattle.mill_ngc.specs.Pieces.{Reading, Going, Failed, after_lines, after_result, after_whole, fed, line_so_far, put_before, reading_at}
 use Rattle.mill_ngc.specs.Programs.{lines_of}
 use Rattle.mill_report.specs.Laws.{OneLeft, OneList}

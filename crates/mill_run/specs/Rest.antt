@@ -8,7 +8,7 @@ use Rattle.mill_job.specs.Jobs.{IsJob}
 use Rattle.mill_job.specs.declared.fields.JobFields.{JobFields}
 use Rattle.mill_job.specs.Lists.{IsListOf}
 use Rattle.mill_job.specs.declared.step.Step.{Step}
-use Rattle.mill_block.specs.declared.fault.NgcFault.{NgcFault}
+use Rattle.mill_said.specs.declared.fault.NgcFault.{NgcFault}
 use Rattle.mill_verify.specs.Files.{File as CutFile, IsFileOf, file_at, job_of, stock_before}
 use Rattle.mill_verify.specs.ListClaims.{FilesCutSafely}
 use Rattle.mill_verify.specs.Lists.{IsListVerdict}

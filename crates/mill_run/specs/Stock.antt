@@ -6,7 +6,7 @@ use Rattle.mill_base.specs.declared.points.Tri.{Tri}
 use Rattle.mill_dexel.specs.Tops.{top_point}
 use Rattle.mill_job.specs.Jobs.{IsJob}
 use Rattle.mill_job.specs.declared.fields.JobFields.{JobFields}
-use Rattle.mill_block.specs.declared.fault.NgcFault.{NgcFault}
+use Rattle.mill_said.specs.declared.fault.NgcFault.{NgcFault}
 use Rattle.mill_stl.specs.Written.{ReadsBack, part_text}
 use Rattle.mill_surface.specs.Surfaces.{HasManyTriangles, surface_of}
 use Rattle.mill_answer.specs.Lines.{line}

@@ -15,33 +15,34 @@ use Rattle.mill_words.specs.Words.{Line}
 use Rattle.mill_words.specs.declared.word.Num.{Num}
 use Rattle.mill_words.specs.declared.word.Word.{Word}
 use Rattle.mill_control.specs.declared.place.Height.TheVariants.{Known as KnownHeight}
-use Rattle.mill_block.specs.declared.fault.NgcFault.{NgcFault}
-use Rattle.mill_block.specs.declared.groups.Group.{Group}
+use Rattle.mill_said.specs.declared.fault.NgcFault.{NgcFault}
+use Rattle.mill_said.specs.declared.before.Before.{Before}
+use Rattle.mill_said.specs.declared.groups.Group.{Group}
 use Rattle.mill_block.specs.declared.machine.Machine.{Machine}
-use Rattle.mill_block.specs.declared.machine_said.MachineSaid.{MachineSaid}
-use Rattle.mill_block.specs.declared.machine_said.Motion.{Motion as LineMotion}
-use Rattle.mill_block.specs.declared.machine_said.Motion.TheVariants as line_motion
-use Rattle.mill_block.specs.declared.machine_table.Meaning.TheVariants as meaning
-use Rattle.mill_block.specs.declared.machine_takes.Takes.{Takes}
+use Rattle.mill_said.specs.declared.machine_said.MachineSaid.{MachineSaid}
+use Rattle.mill_said.specs.declared.machine_said.Motion.{Motion as LineMotion}
+use Rattle.mill_said.specs.declared.machine_said.Motion.TheVariants as line_motion
+use Rattle.mill_said.specs.declared.machine_table.Meaning.TheVariants as meaning
+use Rattle.mill_said.specs.declared.machine_takes.Takes.{Takes}
 use Rattle.mill_block.specs.declared.plain_move.PlainLine.{PlainLine}
 use Rattle.mill_block.specs.declared.plain_move.PlainMove.{PlainMove}
-use Rattle.mill_block.specs.declared.profile.Effect.TheVariants.{Motion}
-use Rattle.mill_block.specs.declared.profile.Mode.{Mode}
-use Rattle.mill_block.specs.declared.profile.Mode.TheVariants.{On}
+use Rattle.mill_said.specs.declared.profile.Effect.TheVariants.{Motion}
+use Rattle.mill_said.specs.declared.profile.Mode.{Mode}
+use Rattle.mill_said.specs.declared.profile.Mode.TheVariants.{On}
 use Rattle.mill_block.specs.declared.progress.Drive.{Drive}
 use Rattle.mill_block.specs.declared.progress.Known.TheVariants.{All}
 use Rattle.mill_block.specs.declared.progress.Progress.{Progress}
-use Rattle.mill_block.specs.declared.rules.Words.{Words}
-use Rattle.mill_block.specs.declared.rules.Words.TheVariants.{Strict, Machine as MachineWords}
-use Rattle.mill_block.specs.declared.said.Said.{Said}
+use Rattle.mill_said.specs.declared.rules.Words.{Words}
+use Rattle.mill_said.specs.declared.rules.Words.TheVariants.{Strict, Machine as MachineWords}
+use Rattle.mill_said.specs.declared.said.Said.{Said}
 use Rattle.mill_block.specs.Drives.{full_drive}
-use Rattle.mill_block.specs.MachineSaid.{nothing_told, told_from, told_word}
-use Rattle.mill_block.specs.MachineTable.{in_group, machine_g_row, row_in, tenths_of}
+use Rattle.mill_said.specs.MachineSaid.{nothing_told, told_from, told_word}
+use Rattle.mill_said.specs.MachineTable.{in_group, machine_g_row, row_in, tenths_of}
 use Rattle.mill_block.specs.Motion.{known_of, made_move}
-use Rattle.mill_block.specs.Numbers.{axis_units, is_over_zero, whole_of}
-use Rattle.mill_block.specs.Profile.{entry_in, g_entry, is_same_group, row}
+use Rattle.mill_said.specs.Numbers.{axis_units, is_over_zero, whole_of}
+use Rattle.mill_said.specs.Profile.{entry_in, g_entry, is_same_group, row}
 use Rattle.mill_block.specs.Lines.{after_words, frame_after}
-use Rattle.mill_block.specs.Said.{after_word, nothing_said, said_from}
+use Rattle.mill_said.specs.Said.{after_word, nothing_said, said_from}
 
 -- ---- what is taken
 
@@ -128,7 +129,7 @@ told_as begun s = record nothing_told { begun = begun; groups = s.groups; motion
 pub record Goes (unit : LengthUnit) (line : ℕ) (positioned : Bool) (w : Word) (s : Said) (plain : PlainLine) : Type 0 where
   pub said : Said
   pub taken : after_word line positioned s w ≡ Ok said
-  pub told : (p : Progress) (t : Takes) (begun : Bool) → told_word p t (told_as begun s) w ≡ Ok (told_as true said)
+  pub told : (p : Before) (t : Takes) (begun : Bool) → told_word p t (told_as begun s) w ≡ Ok (told_as true said)
   pub says : Says unit line plain said
 
 -- ---- the move
@@ -187,7 +188,7 @@ pub record TakenTo (p : Progress) (words : List Word) (i : ℕ) (plain : PlainLi
   pub said : Said
   pub so_far : said_from p.line p.positioned said (drop i words) ≡ said_from p.line p.positioned nothing_said words
   pub begun : Bool
-  pub told : (q : Progress) (t : Takes) → told_from q t (told_as begun said) (drop i words) ≡ told_from q t nothing_told words
+  pub told : (q : Before) (t : Takes) → told_from q t (told_as begun said) (drop i words) ≡ told_from q t nothing_told words
   pub says : Says p.unit p.line plain said
 
 -- the bytes of a line before a place are words that have said this
@@ -198,7 +199,7 @@ pub record ReadTo (p : Progress) (bytes : List ℕ) (place : ℕ) (plain : Plain
   pub said : Said
   pub so_far : (more : List Word) → said_from p.line p.positioned nothing_said (line.words ++ more) ≡ said_from p.line p.positioned said more
   pub begun : Bool
-  pub told : (q : Progress) (t : Takes) (more : List Word) → told_from q t nothing_told (line.words ++ more) ≡ told_from q t (told_as begun said) more
+  pub told : (q : Before) (t : Takes) (more : List Word) → told_from q t nothing_told (line.words ++ more) ≡ told_from q t (told_as begun said) more
   pub says : Says p.unit p.line plain said
   pub few : length line.words ≤ words_in plain
 

@@ -7,7 +7,7 @@ use Rattle.mill_ngc.specs.Programs.{lines_of}
 use Rattle.mill_ngc.specs.Lines.{IsPlace, with_ends}
 use Rattle.mill_ngc.specs.declared.place.LineSpan.{LineSpan}
 use Rattle.mill_ngc.specs.declared.walk.Walk.{Walk}
-use Rattle.mill_block.specs.declared.rules.Rules.{Rules}
+use Rattle.mill_said.specs.declared.rules.Rules.{Rules}
 
 -- these lines have been read: the next has this number, and begins at `from`
 pub record HasWalked (start : Pt3) (unit : Unit) (rules : Rules) (text : List ℕ) (from line : ℕ) (walk : Walk) : Type 0 where

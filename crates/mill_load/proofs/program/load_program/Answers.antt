@@ -1,6 +1,6 @@
 use Rattle.std.proofs.Common.{rules, arith, Err, refl, sym, ◌∙◌}
 use Rattle.std.specs.Prelude.{◌≡◌, ◌≢◌, false}
-use Rattle.mill_block.specs.declared.fault.NgcFault.TheVariants.{WantOfMemory}
+use Rattle.mill_said.specs.declared.fault.NgcFault.TheVariants.{WantOfMemory}
 use Rattle.mill_load.specs.inner.Steps.{is_memory_fault}
 use Rattle.mill_load.proofs.Programs.{is_other, no_text, file_moves, file_fault, moves_ok}
 use Rattle.mill_load.proofs.program.load_program.Goals as goal

@@ -1,6 +1,6 @@
 use Rattle.std.proofs.Common.{rules, Err}
 use Rattle.std.specs.Prelude.{◌≢◌}
-use Rattle.mill_block.specs.declared.fault.NgcFault.TheVariants.{WantOfMemory}
+use Rattle.mill_said.specs.declared.fault.NgcFault.TheVariants.{WantOfMemory}
 use Rattle.mill_load.proofs.Programs.{taken_more}
 use Rattle.mill_load.proofs.program.take_piece.Goals as goal
 

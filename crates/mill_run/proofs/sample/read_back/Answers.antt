@@ -1,6 +1,6 @@
 use Rattle.std.proofs.Common.{Err, ap, rules, ◌∙◌}
 use Rattle.std.specs.Prelude.{◌≢◌}
-use Rattle.mill_block.specs.declared.fault.NgcFault.TheVariants.{WantOfMemory}
+use Rattle.mill_said.specs.declared.fault.NgcFault.TheVariants.{WantOfMemory}
 use Rattle.mill_run.proofs.Samples.{no_fault}
 use Rattle.mill_run.proofs.sample.read_back.Goals as goal
 

@@ -5,7 +5,7 @@ use Rattle.mill_base.specs.declared.unit.Unit.{Unit}
 use Rattle.mill_ngc.specs.Pieces.{fed, IsFront, SoFar}
 use Rattle.mill_ngc.specs.Texts.{reading_of}
 use Rattle.mill_ngc.proofs.text_reader.TextReader.read_piece.Given as goal
-use Rattle.mill_block.specs.declared.rules.Rules.{Rules}
+use Rattle.mill_said.specs.declared.rules.Rules.{Rules}
 
 abbrev pub invariant-loop-rest : goal.invariant-loop-rest
 invariant-loop-rest l = record {

@@ -1,6 +1,0 @@
-use Rattle.std.proofs.Common.{◌≡◌, drop}
-use Rattle.mill_block.specs.MachineTakes.{first_p}
-use Rattle.mill_block.proofs.machine_takes.first_p.Given as goal
-
-abbrev pub invariant-loop-word : goal.invariant-loop-word
-invariant-loop-word l = first_p (drop l.word-index l.words) ≡ first_p l.words

@@ -1,0 +1,4 @@
+pub mod SaidLemmas
+mod TakesLemmas
+pub mod ToldLemmas
+pub mod TextFits

@@ -1,0 +1,2 @@
+-- What private functions and proofs cite alone: no clause of a public call leads here.
+pub mod SeenWords
