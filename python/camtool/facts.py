@@ -91,7 +91,9 @@ class Facts:
             elif letter == "F":
                 self.rates.append(value * self.scale)
         places = {"XYZ".index(letter): value for letter, value in words if letter in "XYZ"}
-        if places and self.mode and not {"G28", "G30", "G53", "G92", "G10", "G4"} & set(codes):
+        # (a whole turn needs no end)
+        is_turn = self.mode in ARCS and any(letter in "IJK" for letter, _ in words)
+        if (places or is_turn) and self.mode and not {"G28", "G30", "G53", "G92", "G10", "G4"} & set(codes):
             self.read_move(number, places, dict(words))
         self.read_stops(number, codes)
         return self.ends

@@ -60,6 +60,7 @@ class Job:
         self.is_machine = machine_words.is_machine(keys)
         self.peck_clearance = keys.get("peck_clearance", 25 if self.grid.places == 2 else 250)
         self.lengths = keys.get("lengths", "table")
+        self.arc_tol = keys.get("arc_tol", 1 if self.grid.places == 2 else 3)
         self.sides = self.area[2] - self.area[0], self.area[3] - self.area[1]
 
     def mm(self, units):
@@ -92,7 +93,9 @@ def words_told(job):
     """Returns how it is told that programs have machine words, and what of the slack is left to the machine."""
     length = "one tool length, whatever a program says" if job.lengths == "one" else "tool lengths by a table"
     share = f"{job.mm(3)} of the slack are the text's, {job.mm(job.slack - 3)} the machine's" if job.slack >= 3 else "no number is rounded, all of the slack is the machine's"
-    return f"those that posts write; {length}; {share}"
+    rest = job.slack - job.arc_tol - 2
+    arcs = f"of an arc {job.mm(job.arc_tol + 2)} are the text's, {job.mm(rest)} the machine's" if rest >= 0 else f"no arc is taken, for that needs a slack of {job.mm(job.arc_tol + 2)}"
+    return f"those that posts write; {length}; {share}; {arcs}"
 
 
 def rows_of(job):
@@ -339,6 +342,9 @@ def premises_of(job, premises):
         yield f"M6 leaves the tip at or over `clear` (line {premises.changes[0]})"
     if premises.high:
         yield f"T and M6 leave a tip that was at or over `clear` there, with the new tool too (line {premises.high})"
+    if premises.arcs:
+        yield (f"I, J and K are offsets from an arc's start (line {premises.arcs}), and the control goes round at distances from the centre "
+               f"between those of start and end, at most {job.mm(job.slack - job.arc_tol - 2)} off")
     if premises.pecks:
         yield f"the control comes back down into a hole to {job.mm(job.peck_clearance)} over the depth before or higher (line {premises.pecks}): `peck_clearance`"
 

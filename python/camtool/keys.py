@@ -58,6 +58,7 @@ KEYS = (
     Key("spindle", "truth", "find_spindle"),
     Key("words", "text", "find_words"),
     Key("slack", "low", "find_slack"),
+    Key("arc_tol", "whole", "find_arc_tol"),
     Key("layer", "near", "find_layer"),
     Key("rough_stock", "near", "find_rough_stock"),
     Key("max_cut", "near", "find_max_cut"),
@@ -354,7 +355,7 @@ class Setup:
     def overcut(self):
         """How deep a program may cut the part: what is asked for, or as much as sliding paths take, if a job takes that."""
         # (what the machine may be off comes into the part too)
-        strays = 3 * self.least if self.has_machine_words else 0
+        strays = self.share * self.least if self.has_machine_words else 0
         wanted = OVERCUT[self.unit] + strays if self.asked.overcut is None else self.asked.overcut
         most = min(map(self.radius_of, self.tools)) - self.least
         return rounded(min(wanted, most, DEEPEST[self.unit]), self.least, ROUND_FLOOR)
@@ -401,9 +402,31 @@ class Setup:
         """Which words programs have, where that is said."""
         return Value(self.asked.words, "which words programs have: the short table's, or those that posts write") if self.asked.words else None
 
+    @property
+    def arc_tol(self):
+        """By how many units the radii of an arc may differ: as much as the usual decimals make them, in inches four."""
+        is_inches = any(it.unit == "inch" for it in self.programs)
+        return 1 if self.unit == "hundredth" else 8 if is_inches else 3
+
+    @property
+    def has_arcs(self):
+        """Whether a program has arcs that are read."""
+        return self.has_machine_words and any("arcs" in it.words for it in self.programs)
+
+    @property
+    def share(self):
+        """How many units of the slack the programs' numbers take: 3, or of an arc `arc_tol` and 2."""
+        return max(self.arc_tol + 2, 3) if self.has_arcs else 3
+
     def find_slack(self):
-        """How far the machine's tip may be off: with machine words as much as the rounding of the text takes."""
-        return Value(3 * self.least, "what the rounding of the program's numbers takes; more where the machine strays, or G64 has a P", True) if self.has_machine_words else None
+        """How far the machine's tip may be off: with machine words as much as the text takes."""
+        what = "arcs and the rounding of the programs' numbers take" if self.has_arcs else "the rounding of the program's numbers takes"
+        return Value(self.share * self.least, f"what {what}; more where the machine strays, or G64 has a P", True) if self.has_machine_words else None
+
+    def find_arc_tol(self):
+        """By how many units the radii of an arc may differ, where it isn't the job's default."""
+        is_usual = self.arc_tol == (1 if self.unit == "hundredth" else 3)
+        return Value(self.arc_tol, "by how much four decimals of an inch make an arc's radii differ", True) if self.has_arcs and not is_usual else None
 
     # ---- what a plan takes
 

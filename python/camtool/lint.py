@@ -41,7 +41,7 @@ BEFORE = {
     "D": "G41 G42",
 }
 # The keys of a job by which it reads a program.
-HABITS = ("start", "clear", "spindle", "words", "slack", "peck_clearance", "lengths")
+HABITS = ("start", "clear", "spindle", "words", "slack", "peck_clearance", "lengths", "arc_tol")
 # A job that judges nothing: one column of stock, far below where the program starts, and no part.
 JOB = """unit = "{unit}"
 cutter = "flat"
@@ -76,7 +76,7 @@ class Asking:
         keys += f'start = "{start}"\n' if start != "home" else ""
         keys += "spindle = true\n" if self.habits.get("spindle") else ""
         if machine_words.is_machine(self.habits):
-            keys += texts.job_text({key: self.habits[key] for key in ("words", "slack", "peck_clearance", "lengths") if key in self.habits})
+            keys += texts.job_text({key: self.habits[key] for key in ("words", "slack", "peck_clearance", "lengths", "arc_tol") if key in self.habits})
         self.store("job.toml", keys.encode("ascii"))
 
     def start_at_home(self):
@@ -114,8 +114,11 @@ class Copy:
         """Returns a line by its number from 1; one behind the last is empty."""
         return self.lines[number - 1] if number <= len(self.lines) else b""
 
-    def note(self, number, told):
-        """Notes what was struck on a line, in quotes or None."""
+    def note(self, number, code, told):
+        """Notes what was struck on a line, in quotes or None, and by which code."""
+        if code == "arc":
+            self.struck.append((number, "G2", f"the arc of line {number}"))
+            return
         name = name_of(told.strip("`")) if told and re.fullmatch(r"`[A-Z][-+0-9.]+`", told) else told or ""
         self.struck.append((number, name, told))
 
@@ -146,6 +149,8 @@ class Copy:
             self.put(number, at, at, LACKING[code].encode("ascii") + b" ")
         elif code == "long-line" and is_new and len(re.sub(rb"\([^()]*\)|;.*", b"", line)) < len(line):
             self.lines[number - 1] = re.sub(rb"\([^()]*\)|;.*", b"", line)
+        elif code == "arc" and is_new:
+            self.lines[number - 1] = straightened(line)
         elif fault and is_new:
             self.put(number, *self.piece(line, code, fault))
         else:
@@ -165,6 +170,18 @@ class Copy:
         return fault.start, fault.end, STAND_INS.get(name_of(word) if word[:1].isalpha() else word, " ").encode("ascii")
 
 
+def straightened(line):
+    """Returns an arc's line as a feed straight to its end."""
+    words, _ = scan(line)
+    names = [name_of(it.text) for it in words]
+    for word, name in reversed(list(zip(words, names))):
+        stand_in = {"G2": b"G1", "G3": b"G1", **dict.fromkeys("IJKR", b"")}.get(name)
+        line = line if stand_in is None else line[:word.start] + stand_in + line[word.end:]
+    # (a mode that an earlier line has set ends here)
+    at = words[0].start if words else 0
+    return line if {"G2", "G3"} & set(names) else line[:at] + b"G1 " + line[at:]
+
+
 def refused_of(copy, refusal, text, job):
     """Returns the Refused of camtool's refusal of a copy. `text` has the lines of the program as they were."""
     line = text[refusal.line - 1] if refusal.line <= len(text) else b""
@@ -175,11 +192,13 @@ def refused_of(copy, refusal, text, job):
     cause = causes.cause_of_word(copy.line(refusal.line), fault.start) if fault and refusal.code == "word" else None
     after = copy.before(refusal.line, refusal.code, told)
     why = why_not(after or told, is_machine) if refusal.code == "not-in-profile" else ""
+    if is_machine and refusal.code == "arc":
+        why = machine_words.why_of(copy.text(), refusal.line, refusal.code, job)
     sentence = cause or sentence_of(refusal, job, told, why) or "docs/FORMATS.md says what this refusal means"
     found = Refused(refusal.line, quoted(line), refusal.code, told, sentence, after)
     if refusal.code != "start":
         copy.strike(refusal.line, refusal.code, fault)
-        copy.note(refusal.line, told)
+        copy.note(refusal.line, refusal.code, told)
     return found
 
 

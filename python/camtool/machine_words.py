@@ -9,7 +9,7 @@ import collections
 import re
 from fractions import Fraction
 
-from camtool import texts
+from camtool import arcs, texts
 from camtool.sentences import GREATEST
 from camtool.texts import Move
 from camtool.words import Fault as WordFault
@@ -19,17 +19,19 @@ from camtool.words import scan
 GROUPS = {
     Fraction(word): group
     for group, words in {
-        0: "4 28 30 53", 2: "17", 3: "90 91", 5: "94", 6: "20 21 70 71", 7: "40", 8: "43 49", 10: "98 99", 11: "50",
+        0: "4 28 30 53", 2: "17 18 19", 3: "90 91", 5: "94", 6: "20 21 70 71", 7: "40", 8: "43 49", 10: "98 99", 11: "50",
         12: "54 55 56 57 58 59 59.1 59.2 59.3", 13: "61 61.1 64", 16: "91.1", 17: "15", 19: "69"}.items()
     for word in words.split()
 }
 # The modal group of each M word; None where a line may have several.
 M_GROUPS = {0: 4, 1: 4, 2: 4, 30: 4, 6: 6, 3: 7, 4: 7, 5: 7, 7: None, 8: None, 9: None}
-# The words of group 1: the modes of straight moves, none, and the drilling cycles.
+# The words of group 1: the modes of straight moves, of arcs, none, and the drilling cycles.
 RAPID, FEED, OFF = "rapid", "feed", "off"
+CLOCKWISE, COUNTERCLOCKWISE = "clockwise", "counterclockwise"
+TURNS = {CLOCKWISE: arcs.CLOCKWISE, COUNTERCLOCKWISE: arcs.COUNTERCLOCKWISE}
 PECKING, FAST_PECKING, DRILLING, DWELLING = 83, 73, 81, 82
 CYCLES = (DRILLING, DWELLING, PECKING, FAST_PECKING)
-MODES = {0: RAPID, 1: FEED, 80: OFF, **{it: it for it in CYCLES}}
+MODES = {0: RAPID, 1: FEED, 2: CLOCKWISE, 3: COUNTERCLOCKWISE, 80: OFF, **{it: it for it in CYCLES}}
 # The words beside which no axis word stands: a rest, and what is switched off.
 ALONE = (4, 15, 50, 69)
 INCHES, MILLIMETRES = (20, 70), (21, 71)
@@ -39,16 +41,20 @@ UNKNOWN, HIGH, KNOWN = "unknown", "high", "known"
 FIRST = "as before"
 MOST_MOVES, MOST_BYTES = 1_000_000, 256
 INCH = Fraction(254, 10)
-# So many units of the slack are the text's, where it has as many: its numbers are rounded to the grid.
-ROUNDING = 3
+# So many units of the slack are the text's, where it has as many: its numbers are rounded to the grid. Of an arc there are
+# `arc_tol` and these: its chords are rounded, and they aren't the arc.
+ROUNDING, CHORDS = 3, 2
+# The decimals of a millimetre of which one is a nanometre.
+FINEST = 6
 
 
 class Fault(Exception):
-    """The first fault of a program: its line, from 1, its code, and which of the line's words is at fault, from 0, or None."""
+    """The first fault of a program: its line, from 1, its code, which of the line's words is at fault, from 0, or None, and
+    of an arc why it isn't taken, else nothing."""
 
-    def __init__(self, code, word=None):
+    def __init__(self, code, word=None, why=""):
         super().__init__(code)
-        self.line, self.code, self.word = 0, code, word
+        self.line, self.code, self.word, self.why = 0, code, word, why
 
 
 # A reading: the moves up to the first fault, the fault or None, and the Premises.
@@ -65,12 +71,13 @@ class Premises:
     high       the first of these with the tip at or over the safe height before it, or None
     early      the line of a Z that is named before the first of these, or None
     pecks      the line of the first hole with stops on its way back down, or None
+    arcs       the line of the first arc, or None
     stops      the lines of M0 and M1
     """
 
     def __init__(self):
         self.zeros, self.lengths, self.ups, self.changes, self.stops = {}, {}, {}, [], []
-        self.high = self.early = self.pecks = None
+        self.high = self.early = self.pecks = self.arcs = None
 
 
 class Control:
@@ -82,6 +89,10 @@ class Control:
         slack = job.get("slack", 0)
         self.rounds = slack >= ROUNDING
         self.tolerance = slack - ROUNDING if self.rounds else slack
+        self.nanometres = 10 ** (FINEST - self.places)
+        self.arc_tolerance = job.get("arc_tol", 1 if self.places == 2 else 3)
+        # (what an arc leaves of the slack to the machine; under 0 no arc is taken)
+        self.arc_rest = slack - self.arc_tolerance - CHORDS
         self.peck_clearance = job.get("peck_clearance", 25 if self.places == 2 else 250)
         self.has_one_length = job.get("lengths", "table") == "one"
         self.change_raises, self.needs_spindle = job.get("start") == "change", job.get("spindle", False)
@@ -89,17 +100,22 @@ class Control:
 
 class Line:
     """What the words of one line say: `values` by letter, with `places` which word has it; `codes` the numbers of its G words
-    and `stops` those of its M words; `mode`, `is_inches`, `is_absolute`, `returns_high` and `zero` are None where the line has
-    no word of that kind, and `up` is G28, G30 or G53, the word `up_at`."""
+    and `stops` those of its M words; `mode`, `is_inches`, `is_absolute`, `returns_high`, `zero`, `plane` and `strays` (by how many
+    units G64 lets the machine stray, 0 with G61) are None where the line has no word of that kind, and `up` is G28, G30 or G53,
+    the word `up_at`."""
 
     def __init__(self):
         self.values, self.places, self.codes, self.stops, self.had = {}, {}, [], [], []
         self.alone, self.up_at = False, None
-        self.mode = self.is_inches = self.is_absolute = self.returns_high = self.zero = self.up = None
+        self.mode = self.is_inches = self.is_absolute = self.returns_high = self.zero = self.up = self.plane = self.strays = None
 
     def has_axis(self):
         """Whether an axis word was read."""
         return any(it in self.values for it in "XYZ")
+
+    def has_turn(self):
+        """Whether a word was read that makes an arc of a line, beside axis words."""
+        return any(it in self.values for it in "IJKR")
 
     def goes_across(self):
         """Whether X or Y was read."""
@@ -117,10 +133,11 @@ class Line:
 
 
 class Series:
-    """Lines of cycles with no other mode between them: the height at which they began, and the words that stay."""
+    """Lines of cycles with no other mode between them: the height at which they began, in whole units and as it was named, and
+    the words that stay."""
 
-    def __init__(self, level):
-        self.level, self.cycle, self.words = level, None, {}
+    def __init__(self, level, exact_level):
+        self.level, self.exact_level, self.cycle, self.words = level, exact_level, None, {}
 
     def take(self, cycle, values):
         """Takes a line's words: those of another cycle don't stay."""
@@ -131,8 +148,7 @@ class Series:
 
 def nearest(number):
     """Returns the nearest whole number, ties away from zero."""
-    whole = (2 * abs(number.numerator) + number.denominator) // (2 * number.denominator)
-    return whole if number >= 0 else -whole
+    return arcs.nearest(number.numerator, number.denominator)
 
 
 def words_of(line):
@@ -157,10 +173,10 @@ class Reader:
         self.moves, self.line, self.has_ended, self.frame = [], 0, False, None
         # what is in force
         self.is_inches = self.is_absolute = self.returns_high = self.series = None
-        self.mode, self.length, self.zero = OFF, FIRST, FIRST
+        self.mode, self.length, self.zero, self.plane, self.strays = OFF, FIRST, FIRST, 17, 0
         self.turns = self.has_speed = self.has_rate = False
-        # the list's place, and what is known of the tip's
-        self.place, self.begun, self.waiting = [None, None, None], False, []
+        # the list's place; the units that the text named last of each axis, not rounded; and what is known of the tip's place
+        self.place, self.begun, self.waiting, self.named = [None, None, None], False, [], [None, None, None]
         self.knows_across, self.height = False, UNKNOWN
         # what values were named under, and whether some were
         self.z_under = self.xy_under = None
@@ -169,11 +185,12 @@ class Reader:
     # ---- a line's words, from left to right
 
     def takes(self, words):
-        """Returns which of H, P, R and Q a line takes, by all of its words; and the units of a tolerance's P, or None."""
+        """Returns which of H, I, J, K, P, R and Q a line takes, by all of its words; and the units of a tolerance's P, or None."""
         codes = [number for letter, number in words if letter == "G"]
         modes = [MODES[it] for it in codes if it in MODES] or [self.mode]
-        drills, rests = any(it in CYCLES for it in modes), DWELLING in modes
-        taken = {"R": drills, "Q": drills, "P": 4 in codes or 64 in codes or rests, "H": 43 in codes, "H0": 43 in codes or 49 in codes}
+        drills, rests, turns = any(it in CYCLES for it in modes), DWELLING in modes, any(it in TURNS for it in modes)
+        taken = {"R": drills or turns, "Q": drills, "P": 4 in codes or 64 in codes or rests, "H": 43 in codes, "H0": 43 in codes or 49 in codes}
+        taken.update(dict.fromkeys("IJK", turns))
         is_inches = self.is_inches is not False
         if any(it in codes for it in (*INCHES, *MILLIMETRES)):
             is_inches = any(it in codes for it in INCHES)
@@ -218,7 +235,7 @@ class Reader:
                 raise Fault("group", at)
             if number == 64 and not (tolerance and 0 < tolerance <= self.control.tolerance):
                 raise Fault("path-control", at)
-            self.say_setting(line, number, at)
+            self.say_setting(line, number, at, tolerance)
         else:
             raise Fault("not-in-profile", at)
         line.codes.append(number)
@@ -226,8 +243,8 @@ class Reader:
     @staticmethod
     def say_mode(line, at, mode):
         """Takes a word of group 1: G80 may stand beside one G0 or G1, no other two."""
-        kind = "cycle" if mode in CYCLES else "off" if mode == OFF else "straight"
-        others = {"off": ("off", "cycle"), "straight": ("straight", "cycle"), "cycle": ("off", "straight", "cycle")}[kind]
+        kind = "off" if mode == OFF else "straight" if mode in (RAPID, FEED) else "single"
+        others = {"off": ("off", "single"), "straight": ("straight", "single"), "single": ("off", "straight", "single")}[kind]
         if any(it in line.had for it in others):
             raise Fault("group", at)
         line.had.append(kind)
@@ -235,10 +252,12 @@ class Reader:
             line.mode = mode
 
     @staticmethod
-    def say_setting(line, number, at):
+    def say_setting(line, number, at, tolerance):
         """Takes a G word that isn't of group 1."""
         group = GROUPS[number]
-        if group == 3:
+        if group == 2:
+            line.plane = int(number)
+        elif group == 3:
             line.is_absolute = number == 90
         elif group == 6:
             line.is_inches = number in INCHES
@@ -246,6 +265,8 @@ class Reader:
             line.returns_high = number == 98
         elif group == 12:
             line.zero = f"G{float(number):g}"
+        elif group == 13:
+            line.strays = tolerance if number == 64 else 0
         elif number in (28, 30, 53):
             line.up, line.up_at = int(number), at
         line.alone = line.alone or number in ALONE
@@ -254,7 +275,7 @@ class Reader:
 
     def settle(self, line):
         """Takes a line's settings, its tool, its spindle and its offsets."""
-        for name in ("is_inches", "is_absolute", "returns_high", "mode"):
+        for name in ("is_inches", "is_absolute", "returns_high", "mode", "plane", "strays"):
             if getattr(line, name) is not None:
                 setattr(self, name, getattr(line, name))
         if line.mode is not None and not line.drills():
@@ -346,7 +367,10 @@ class Reader:
 
     def act(self, line):
         """Makes a line's moves."""
-        if line.has_axis():
+        is_arc = self.mode in TURNS and line.has_turn()
+        if is_arc and line.up is not None:
+            raise Fault("not-in-profile", line.up_at)
+        if line.has_axis() or is_arc:
             if line.up is not None:
                 self.go_up(line)
             else:
@@ -383,13 +407,13 @@ class Reader:
     def may_name(self, line, height):
         """Whether a line may name its values by what is known of the place; `height` is its Z in units, or None."""
         is_up = self.mode == RAPID and height is not None and not line.goes_across() and height >= self.control.clear
-        is_low, is_hole = height is not None and height < self.control.clear, self.mode in CYCLES
+        is_low, is_straight = height is not None and height < self.control.clear, self.mode not in CYCLES and self.mode not in TURNS
         return not (
             (self.height == UNKNOWN and not is_up)
             or (self.height == HIGH and self.mode != RAPID)
-            or (is_low and not is_hole and (not self.knows_across or (self.height == HIGH and line.goes_across())))
+            or (is_low and is_straight and (not self.knows_across or (self.height == HIGH and line.goes_across())))
             or (not self.knows_across and ("X" in line.values) != ("Y" in line.values))
-            or (is_hole and not (self.knows_across and self.height == KNOWN)))
+            or (not is_straight and not (self.knows_across and self.height == KNOWN)))
 
     def check(self, line, height):
         """The checks of a line that names values, up to those of its numbers."""
@@ -397,7 +421,7 @@ class Reader:
             raise Fault("late-tool")
         if not self.may_name(line, height):
             raise Fault("start")
-        names_height = "Z" in line.values or "R" in line.values
+        names_height = "Z" in line.values or "R" in line.values and self.mode not in TURNS
         if names_height and self.z_under not in (None, (self.length, self.zero)) or line.goes_across() and self.xy_under not in (None, self.zero):
             raise Fault("late-offset")
         if self.is_inches is None:
@@ -431,10 +455,17 @@ class Reader:
         is_before_tool = self.mode == RAPID and not line.goes_across() and height is not None and height >= self.control.clear and not has_length
         if self.mode in CYCLES:
             self.drill(line)
+        elif self.mode in TURNS:
+            self.turn(line)
         else:
             self.go(self.mode, *(self.value(line, letter, it) for letter, it in zip("XYZ", self.place)))
+            self.named = self.exact_end(line)
         self.note(line)
         self.has_named = self.has_named or not is_before_tool
+
+    def exact_end(self, line):
+        """Returns where a line ends, in units that aren't rounded: what it doesn't name is as it was named before."""
+        return [self.units(line.values[letter]) if letter in line.values else it for letter, it in zip("XYZ", self.named)]
 
     def note(self, line):
         """Notes what is known behind a line, and under which offsets it names its values."""
@@ -451,13 +482,71 @@ class Reader:
             self.xy_under = self.zero
         self.premises.zeros.setdefault(self.zero, self.line)
 
+    # ---- arcs
+
+    def turn(self, line):
+        """Takes a line of an arc: feeds along its chords."""
+        control, end = self.control, self.exact_end(line)
+        if self.strays > control.arc_rest >= 0:
+            raise Fault("path-control")
+        word, why = self.flaw_of_words(line, end)
+        if why:
+            raise Fault("arc", line.places.get(word), why)
+        for letter in "XYZ":
+            self.value(line, letter, None)
+        plane = arcs.PLANES[self.plane]
+        offsets = [self.units(line.values.get("IJK"[axis], Fraction(0))) for axis in plane[:2]]
+        arc = arcs.Arc(*([int(it * control.nanometres) for it in some] for some in (self.named, end, offsets)), plane, TURNS[self.mode])
+        flaw = arc.flaw(control.arc_tolerance * control.nanometres)
+        if flaw:
+            raise Fault("arc", None, flaw)
+        self.go_round(arc)
+        self.named = end
+
+    def go_round(self, arc):
+        """Makes the feeds along the chords of a sound arc."""
+        try:
+            places = arc.places(self.control.nanometres)
+        except arcs.Endless:
+            raise Fault("arc", None, "it has no end of chords") from None
+        if any(abs(it) > self.control.greatest for place in places for it in place):
+            raise Fault("out-of-range")
+        self.premises.arcs = self.premises.arcs or self.line
+        for place in places:
+            self.go(FEED, *place)
+
+    def flaw_of_words(self, line, end):
+        """Returns which letter of an arc's line is at fault, or None, and why, or None where its words make an arc. `end` is
+        where it ends, in units."""
+        first, second, third = ("IJK"[axis] for axis in arcs.PLANES[self.plane])
+        offsets = {it: self.units(line.values[it]) for it in "IJK" if it in line.values}
+        values = {**offsets, **{it: length for it, length in zip("XYZ", end) if it in line.values}}
+        is_whole = lambda it: (it * self.control.nanometres).denominator == 1
+        if "R" in line.values:
+            return "R", f"it tells a radius: its centre is told by {first} and {second}"
+        if offsets.get(third):
+            return third, f"{third} isn't 0 in the plane of {first} and {second}"
+        if first not in offsets and second not in offsets:
+            return None, f"neither {first} nor {second} tells its centre"
+        if self.control.arc_rest < 0:
+            return None, f"it needs a `slack` of at least {self.control.arc_tolerance + CHORDS}"
+        for letter, length in offsets.items():
+            if abs(length) > self.control.greatest:
+                return letter, "its centre is farther off than a coordinate reaches"
+        for letter, length in values.items():
+            if not is_whole(length):
+                return letter, "a number is finer than a nanometre"
+        return None, None if all(map(is_whole, (*self.named, *end))) else "its start is finer than a nanometre"
+
     # ---- cycles
 
     def may_drill(self, x, y):
         """Whether the words of a series are whole, and all controls go the same way to and from a hole."""
         words, returns_high = self.series.words, self.returns_high
         needed = "RZQ" if self.mode in (PECKING, FAST_PECKING) else "RZ"
-        if any(it not in words for it in needed) or ("Q" in needed and words["Q"] <= 0) or words["Z"] > words["R"] or returns_high is None:
+        if any(it not in words for it in needed) or ("Q" in needed and words["Q"] <= 0) or words["Z"] > words["R"]:
+            return False
+        if returns_high is None or self.plane != 17:
             return False
         is_under = self.place[2] < nearest(self.units(words["R"]))
         return not (is_under and [x, y] != self.place[:2]) and not (returns_high and self.place[2] != self.series.level)
@@ -465,7 +554,7 @@ class Reader:
     def drill(self, line):
         """Takes a line of a drilling cycle."""
         if self.series is None:
-            self.series = Series(self.place[2])
+            self.series = Series(self.place[2], self.named[2])
         self.series.take(self.mode, line.values)
         x, y = (nearest(self.units(line.values[it])) if it in line.values else old for it, old in zip("XY", self.place))
         if not self.may_drill(x, y):
@@ -482,6 +571,8 @@ class Reader:
             self.go(RAPID, x, y, clearance)
         self.cut_hole(x, y, clearance)
         self.go(RAPID, x, y, max(clearance, self.series.level) if self.returns_high else clearance)
+        exact = self.units(self.series.words["R"])
+        self.named = [*self.exact_end(line)[:2], max(exact, self.series.exact_level) if self.returns_high else exact]
 
     def cut_hole(self, x, y, clearance):
         """The feeds of a hole, and the ways back between them."""
@@ -525,6 +616,12 @@ def fault_of(text, line, code, job):
     if words and words[0].text == "/" and code == "not-in-profile":
         return WordFault("`/`", words[0].start, words[0].end)
     return None if fault.word is None else words_fault(words, fault.word, code)
+
+
+def why_of(text, line, code, job):
+    """Returns, in brackets and with a blank before, why an arc isn't taken, where that is the program's first fault; else nothing."""
+    fault = read(text, job).fault
+    return f" ({fault.why})" if fault and fault.why and (fault.line, fault.code) == (line, code) else ""
 
 
 def words_fault(words, at, code):

@@ -60,9 +60,9 @@ class Picture:
         wide = max(side * self.scale, 2)
         self.parts.append(f'<rect x="{x - wide / 2:.2f}" y="{y - wide / 2:.2f}" width="{wide:.2f}" height="{wide:.2f}" {how}/>')
 
-    def line(self, one, other, how):
-        """Draws a line between two places."""
-        self.parts.append(f'<polyline points="{self.at(one)} {self.at(other)}" fill="none" {how}/>')
+    def line(self, places, how):
+        """Draws a line from place to place."""
+        self.parts.append(f'<polyline points="{" ".join(map(self.at, places))}" fill="none" {how}/>')
 
     def disc(self, place, radius, how):
         """Draws a disc about a place, its radius as it is drawn."""
@@ -243,6 +243,21 @@ def color_of(part):
     return "rgb({},{},{})".format(*(round(a + (b - a) * (at - low)) for a, b in zip(RAMP[low], RAMP[low + 1])))
 
 
+def ways_of(moves, shown):
+    """Returns the moves of these numbers as pairs of a move and its places: neighbouring feeds of one line at one height, that
+    go on from each other as the chords of an arc do, are one, with the places between them."""
+    ways, last = [], None
+    for number in sorted(shown):
+        move = moves[number]
+        goes_on = ways and number - 1 == last and ways[-1][0][:2] == move[:2] and move.kind == "feed" and ways[-1][1][-1] == move.start
+        last = number
+        if goes_on and ways[-1][0].end[2] == move.end[2]:
+            ways[-1][1].append(move.end)
+        else:
+            ways.append((move, [move.start, move.end]))
+    return ways
+
+
 def draw_path(picture, files, near):
     """Draws the job's area, and the way of the program: its feeds by their height."""
     x0, y0, x1, y1 = files.job["area"]
@@ -250,11 +265,11 @@ def draw_path(picture, files, near):
     picture.legend.append((dash_of(picture.stroke("green", 1, 6)), "the area"))
     feeds = [it.end[2] for it in files.moves if it.kind == "feed"]
     low, high = min(feeds, default=0), min(max(feeds, default=1), files.job["top"])
-    shown = [files.moves[it] for it in drawn(files.moves, lambda it: move_distance(it, near))]
+    shown = ways_of(files.moves, drawn(files.moves, lambda it: move_distance(it, near)))
     # (what is lower is drawn above what is higher, and the rapids under both)
-    for move in sorted(shown, key=lambda it: (it.kind == "feed", -it.end[2])):
+    for move, places in sorted(shown, key=lambda it: (it[0].kind == "feed", -it[0].end[2])):
         color = "#6a7079" if move.kind == "rapid" else color_of((move.end[2] - low) / max(high - low, 1))
-        picture.line(move.start, move.end, picture.stroke(color, 1 if move.kind == "rapid" else 1.4, 4 if move.kind == "rapid" else 0))
+        picture.line(places, picture.stroke(color, 1 if move.kind == "rapid" else 1.4, 4 if move.kind == "rapid" else 0))
     z = files.grid.millimetres
     picture.legend.append((dash_of(picture.stroke(color_of(0), 3)), f"feeds, the lowest at Z{z(low)}"))
     if high > low:
@@ -270,7 +285,7 @@ def draw_pieces(picture, job, pieces):
         if "holder_radius" in job:
             picture.disc(middle, job["holder_radius"] * picture.scale, f'fill="none" {picture.stroke("red", 1, 4)}')
     for piece, middle in zip(pieces, middles):
-        picture.line(*piece, f'{picture.stroke("darkred", 4)} stroke-linecap="round"')
+        picture.line(piece, f'{picture.stroke("darkred", 4)} stroke-linecap="round"')
         picture.disc(middle, 3, 'fill="darkred"')
     if pieces:
         holder = " (dashed: its holder)" if "holder_radius" in job else ""
@@ -296,7 +311,7 @@ def draw_marks(picture, job, marks):
     if marks.triangles:
         picture.legend.append((swatch('fill="rgb(255,190,90)" stroke="rgb(220,120,0)"'), "the first triangle that each meets"))
     for move in marks.moves[:DRAWN]:
-        picture.line(move.start, move.end, picture.stroke("red", 2))
+        picture.line((move.start, move.end), picture.stroke("red", 2))
     if marks.moves:
         picture.legend.append((dash_of(picture.stroke("red", 2)), "moves that fail"))
     draw_columns(picture, job, marks)

@@ -124,6 +124,18 @@ def ends_of(move, leaf):
     return [tuple(one + (other - one) * end for one, other in zip(move.start, move.end)) for end in ends]
 
 
+def chord_of(moves, number):
+    """Returns which chord of its line's arc a move is, as it is told; nothing of a move that is its line's only one, or of a
+    line that has rapids too."""
+    first, behind = number, number + 1
+    while first > 0 and moves[first - 1].line == moves[number].line:
+        first -= 1
+    while behind < len(moves) and moves[behind].line == moves[number].line:
+        behind += 1
+    is_arc = behind - first > 1 and all(it.kind == "feed" for it in moves[first:behind])
+    return f" along chord {number - first + 1} of its arc's {behind - first}" if is_arc else ""
+
+
 def tell_move(files, reason, marks):
     """Returns the lines on the move of a place: where it stands, and what it is."""
     move, point = files.move(reason.move), files.grid.point
@@ -136,7 +148,7 @@ def tell_move(files, reason, marks):
     test = f": {reason.test}" if reason.line is not None else ""
     return [
         f"{files.program} line {line}: {quoted(words)}",
-        f"move {reason.move}, a {move.kind} from {point(move.start)} to {point(move.end)}{test}",
+        f"move {reason.move}, a {move.kind}{chord_of(files.moves, reason.move)} from {point(move.start)} to {point(move.end)}{test}",
     ]
 
 

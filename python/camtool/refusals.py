@@ -129,7 +129,7 @@ def tell_line(name, refusal, job):
     if is_machine and refusal.code != "word":
         fault = machine_words.fault_of(text, refusal.line, refusal.code, job)
     word = fault and fault.told
-    why = why_not(word, is_machine) if refusal.code == "not-in-profile" else ""
+    why = why_not(word, is_machine) if refusal.code == "not-in-profile" else machine_words.why_of(text, refusal.line, refusal.code, job) if is_machine else ""
     cause = causes.cause_of_word(line, fault.start) if fault and refusal.code == "word" else None
     return [place, cause or sentence_of(refusal, job, word, why)]
 

@@ -49,6 +49,7 @@ KEYS = {
     "words": ("which words programs have", 'a text, "strict" or "machine"'),
     "peck_clearance": ("how far over the depth before a cycle stops on its way back down", LEFT),
     "lengths": ("which tool lengths the machine has", 'a text, "table" or "one"'),
+    "arc_tol": ("by how much the distances of an arc's start and end from its centre may differ", "a whole number of {units} from 1 to 100"),
     "steps": ("which programs cut the stock, one after the other", "1 to 16 tables, each under a line [[steps]]"),
     "program": ("the name of the step's program", "a text, in quotes"),
 }
@@ -84,6 +85,7 @@ SENTENCES = {
     "job relation slack clear": "at `clear` the tip may be under `top` by `slack`, and lower with a cone: raise `clear`, or write a lesser `slack`",
     "job relation keep_out clear": "one of `keep_out` is over `clear`, at which the tip may be lower by `slack`, and lower still with a cone: raise `clear` over clamps and vice",
     "job relation words start": "`words` is \"machine\" and `start` is \"home\": programs of posts bring the tip to their first place themselves; write `start = \"anywhere\"`",
+    "job relation arc_tol slack": "`slack` is under `arc_tol` and 2 together, and so much of it an arc's own numbers take: write a greater `slack`, or a lesser `arc_tol`",
     "part expected": "another word is expected here: a part is ASCII STL, between `solid NAME` and `endsolid NAME` for each triangle "
     "`facet normal N N N outer loop`, three times `vertex X Y Z`, `endloop endfacet`; export it again",
     "part cut-short": "the text ends before its solid does: `endsolid` is missing, or the file was cut off; export it again",
@@ -107,11 +109,13 @@ SENTENCES = {
     "program no-spindle": "the line feeds, and the spindle doesn't turn: write M3 or M4, and an S over 0, before it; M5 and M6 stop the spindle",
     "program no-feed": "the line feeds without a feed rate: write an F over 0 on it or before it",
     "program path-control": "{word} asks for a path tolerance that the job doesn't allow: G64 needs a P over 0, of at most {tolerance} mm, which is `slack` less the 3 units of the text's "
-    "rounding; write G61, a lesser P, or a larger `slack` if the machine is to stray so far",
+    "rounding, and before arcs of at most {arc_tolerance} mm, which is `slack` less `arc_tol` and 2; write G61, a lesser P, or a larger `slack` if the machine is to stray so far",
     "program late-offset": "the line names a value under another tool length or zero than lines before it: take the line of Z before the length out (of FreeCAD's posts for LinuxCNC and Mach3 "
     "that before M6), or write `lengths = \"one\"` where the machine has no tool table and G43 and G49 move and change nothing",
     "program cycle": "the cycle isn't whole, or controls differ in what they make of it: it needs R, Z, for G83 and G73 a Q over 0, each since the last G0, G1 or G80; Z not over R; "
     "G98 or G99 before it; z at R or over it where it goes across; with G98 z at the height where its series began. Have them written, or have moves written",
+    "program arc": "the arc isn't taken{why}: an arc needs I or J (in G18 K or I, in G19 J or K), a third offset of 0 or none, and no R; start and end equally far from its "
+    "centre, to `arc_tol`; no number finer than a nanometre; and a `slack` of at least `arc_tol` and 2. Have it written so, or write a greater `arc_tol` or `slack` in the job",
     "program off-grid": "{word} is finer than the job's unit of {one} mm: have the program written with {decimals} decimals{finer}",
     "program out-of-range": "{word} is over {reach} mm in magnitude: keep the program nearer to its zero{coarser}",
     "program too-many-moves": "the program has over 1,000,000 moves: part it in several, and name them in a list for `rest`",
@@ -132,7 +136,7 @@ SENTENCES = {
 }
 # What else a refusal means by a job whose programs have machine words.
 MACHINE = {
-    "not-in-profile": "{word} isn't among the words that `words = \"machine\"` takes, or its line doesn't take it{why}; docs/FORMATS.md has the table, and which line takes H, P, Q and R",
+    "not-in-profile": "{word} isn't among the words that `words = \"machine\"` takes, or its line doesn't take it{why}; docs/FORMATS.md has the table, and which line takes H, I, J, K, P, Q and R",
     "late-tool": "the line names a place behind a tool change (T or M6), and before that change a place was named already: write a program for each tool, and a list of them for `rest`",
     "group": "{word} can't stand so: two words of one modal group, an axis beside G4, G15, G50 or G69, or another unit than the program's; write them on lines of their own",
     "start": "what is known of the tip's place doesn't allow this line: from an unknown place first G0 with Z alone, at or over `clear`, and then G0 with X and Y; "
@@ -173,10 +177,11 @@ def facts_of(job):
         more = ', or take a job with `unit = "thousandth"`'
         words = ["hundredths of a millimetre", "300", "5", "131,071", "1310.71", "0.01", "two", f"{more}, which takes three", more, ""]
     places = 3 if job.get("unit") == "thousandth" else 2
-    slack = job.get("slack", 0)
-    # (of a slack of 3 units and more, 3 are the text's)
-    tolerance = f"{(slack - 3 if slack >= 3 else slack) / 10**places:.{places}f}" if isinstance(slack, int) else "0"
-    return dict(zip("units three five greatest reach one decimals finer finer_part coarser tolerance".split(), [*words, tolerance]))
+    slack, arc_tol = job.get("slack", 0), job.get("arc_tol", 1 if places == 2 else 3)
+    # (of a slack of 3 units and more, 3 are the text's, and of an arc `arc_tol` and 2)
+    rest = [slack - 3 if slack >= 3 else slack, max(slack - arc_tol - 2, 0)] if isinstance(slack, int) and isinstance(arc_tol, int) else [0, 0]
+    tolerances = [f"{it / 10**places:.{places}f}" for it in rest]
+    return dict(zip("units three five greatest reach one decimals finer finer_part coarser tolerance arc_tolerance".split(), [*words, *tolerances]))
 
 
 def sentence_of(refusal, job, word=None, why=""):
@@ -191,12 +196,14 @@ def sentence_of(refusal, job, word=None, why=""):
     near = difflib.get_close_matches(refusal.rest, KEYS, 1)
     facts = facts_of(job)
     usual = "a coordinate" if refusal.kind == "part" else "two words" if refusal.code in ("group", "twice") else "a word"
+    # (an arc is refused for a tolerance that an earlier line has set)
+    usual = "the G64 that is in force" if refusal.code == "path-control" else f"{usual} on this line"
     return (machine or SENTENCES[named]).format(
         key=quoted(refusal.rest),
         near=f" (`{near[0]}`?)" if near else "",
         what=what,
         form=form.format(**facts),
-        word=word or f"{usual} on this line",
+        word=word or usual,
         why=why,
         **facts,
     )

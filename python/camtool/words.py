@@ -41,14 +41,16 @@ REASONS = {
 }
 
 # Of these, what a job with `words = "machine"` takes.
-MACHINE = set("G4 P G20 G28 G30 G53 G43 H G55 G56 G57 G58 G59 G61.1 G64 G15 G50 G69 G70 G71 G73 G81 G82 G83 G98 G99 Q R G91.1 G91 M0 M1 O".split())
+MACHINE = set("G2 G3 I J K G18 G19 G4 P G20 G28 G30 G53 G43 H G55 G56 G57 G58 G59 G61.1 G64 G15 G50 G69 G70 G71 G73 G81 G82 G83 G98 G99 Q R G91.1 G91 M0 M1 O".split())
 # Why words aren't taken with `words = "machine"`, or aren't on some lines, where that is another reason.
 MACHINE_REASONS = {
     "H": "H stands with G43, and H0 with G49",
     "P": "P stands with G4, with G64 and in a G82",
     "Q R": "R and Q stand in G81, G82, G83 and G73",
+    "I J K": "I, J and K stand in an arc, a line of G2 or G3",
     "G28 G30": "it stands with Z alone, or with X or Y, under G91 and with values of 0",
-    "G53": "it stands in a rapid, and with no word of a cycle",
+    "G53": "it stands in a rapid, and with no word of a cycle or an arc",
+    "G90.1": "arcs whose I, J and K are places: have them written as offsets from the start",
     "O": "a program's number stands first on a line, before the first place; subprograms aren't read",
     "G84 G85 G86 G87 G88 G89 G76 L": "a cycle that isn't read: have moves written",
     "M25 M99": "a word of one control alone: take it out",

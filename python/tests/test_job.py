@@ -37,6 +37,7 @@ class Words(unittest.TestCase):
             (b"G21 G90\nG0 X5\nG91\nG0 X-2\nG90\nG0 X1\n", dict(low=[1, None, None], high=[5, None, None], words={"G91"})),
             (b"g01 x1 y2 (a) z3 ; c\n", dict(moves=1, feeds=1, high=[1, 2, 3])),
             (b"G0 X1 Y1\nG2 X3 I1\nG81 R2 Z-1\n", dict(moves=3, feeds=2, words={"arcs", "cycles"}, cut_low=[1, 1, -1])),
+            (b"G0 X1 Y1\nG2 I1\n", dict(moves=2, feeds=1, words={"arcs"}, cut_high=[1, 1, None])),
             (b"G91 G28 Z0\nG53 G0 Z0\nG90 G0 Z5\n", dict(moves=1, low=[None, None, 5])),
             (b"G0 G80 X1\nY2\nG80\nX3\n", dict(moves=2, high=[1, 2, None])),
             (b"( M6 T3 )\nG0 X1\nT0 M6\n", dict(numbers=[3])),

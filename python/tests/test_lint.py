@@ -5,7 +5,7 @@ import tempfile
 import unittest
 from unittest import mock
 
-from camtool import lint, programs, texts, words
+from camtool import lint, machine_words, programs, texts, words
 from camtool.sentences import Refusal
 
 
@@ -109,6 +109,24 @@ class Searching(unittest.TestCase):
         text = b"G21\nG1 X1.234 Y1.2345\nM2\n"
         self.assertEqual(told(text), ([(2, "off-grid", "`Y1.2345`", None)], True, "thousandth"))
         self.assertEqual(len(told(text, "hundredth")[0]), 2)
+
+    def test_arcs_that_are_not_taken(self):
+        def answer(asking, copy):
+            fault = machine_words.read(copy, {**asking.job, "slack": 3}).fault
+            return fault and Refusal("program", fault.line, fault.code, "")
+
+        text = b"G21 G90\nG0 Z9\nX1 Y1\nG2 X3 R1\nG2 X1 I-1\nX3 I1.5\nX1 I-1\nM2\n"
+        with mock.patch.object(lint.Asking, "refusal", answer):
+            found, is_taken, _ = lint.all_refused("a.ngc", text, "hundredth", {"words": "machine", "start": "anywhere", "clear": 400, "slack": 3})
+        self.assertEqual([(it.line, it.code, it.told, it.after) for it in found], [
+            (4, "arc", "`R1`", None), (6, "arc", None, None), (7, "not-in-profile", "`I-1`", "the arc of line 6")])
+        self.assertIn("its centre is told by I and J", found[0].sentence)
+        self.assertIn("its start is 1.5000 mm from its centre, and its end 0.5000 mm", found[1].sentence)
+        self.assertTrue(is_taken)
+
+    def test_arcs_are_made_straight(self):
+        for line, wanted in ((b"N5 G02 X1 I2 J3", b"N5 G1 X1  "), (b"x1 r5", b"G1 x1 "), (b"(a) I1", b"(a) G1 "), (b"G2 K1 Z2", b"G1  Z2")):
+            self.assertEqual(lint.straightened(line), wanted)
 
     def test_encodings(self):
         for encoding in ("utf-8-sig", "utf-16"):

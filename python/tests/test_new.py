@@ -103,6 +103,10 @@ class Jobs(test_cutters.InAFolder):
             ("a vice", [TWO], ["--keep-out=-20.001,-5,-2,35,6.5", "--keep-out=42,-5,60,35,6.501", "--rapids=axes", "--start=anywhere", "--spindle"], dict(
                 keep_out=[[-2001, -500, -200, 3500, 650], [4200, -500, 6000, 3500, 651]], rapids="axes", start="anywhere", spindle=True, clear=1300)),
             ("machine words", [TWO], ["--words=machine"], dict(words="machine", start="anywhere", slack=3, overcut=8, clear=1300)),
+            ("arcs", [TWO + "G2 I1\n"], ["--words=machine"], dict(words="machine", slack=3, overcut=8, arc_tol=None)),
+            ("arcs in thousandths", [THREE.replace("M2", "G2 I1\nM2")], ["--words=machine"], dict(words="machine", slack=5, overcut=20, arc_tol=None)),
+            ("arcs in inches", [THREE.replace("G21", "G20").replace("M2", "G2 I1\nM2")], ["--words=machine", "--tool=flat 6"], dict(words="machine", slack=10, overcut=25, arc_tol=8)),
+            ("arcs that aren't read", [THREE.replace("M2", "G2 I1\nM2")], [], dict(slack=None, overcut=15)),
             ("machine words and a changer", [TWO], ["--words=machine", "--start=change", "--overcut=0.1"], dict(words="machine", start="change", overcut=10)),
             ("a plan in a vice", [], ["--tool=1", "--keep-out=-20,-5,-2,35,12"], dict(keep_out=[[-2000, -500, -200, 3500, 1200]], clear=1700, rapids=None, start=None, spindle=None)),
             ("a plan", [], ["--tool=1", "--layer=1"], dict(radius=300, overcut=None, area=[-300, -300, 4300, 3300], layer=100, rough_stock=30, max_cut=130, raster=50, lift=5, home=[0, 0], clear=1301)),

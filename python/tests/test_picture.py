@@ -11,9 +11,9 @@ NAMES = ["job.toml", "part.stl", "program.ngc"]
 
 
 class Picture(made.Folder):
-    def drawn(self, marks=None, lines=("one line",)):
+    def drawn(self, marks=None, lines=("one line",), program=None):
         """Returns the picture as a tree, and its text."""
-        self.store("program.ngc", made.program())
+        self.store("program.ngc", program or made.program())
         text = picture.picture_of(Files(NAMES, [{"program": NAMES[2]}]), list(lines), marks or Marks())
         return tree.fromstring(text), text
 
@@ -47,6 +47,13 @@ class Picture(made.Folder):
             self.assertIn(wanted, said)
         self.assertIn(f'stroke="{picture.color_of(0)}"', text)
         self.assertEqual([picture.color_of(it) for it in (0, 1)], ["rgb(35,34,107)", "rgb(125,211,192)"])
+
+    def test_an_arc_is_one_line_along_its_chords(self):
+        self.store("job.toml", made.JOB + 'words = "machine"\nstart = "anywhere"\nslack = 3\n')
+        _, text = self.drawn(program="G21 G90\nG0 Z6\nX2 Y4\nG1 Z5 F100\nG3 I2\nX2 Z4 I2\nM2\n")
+        lines = [it.count(",") for it in re.findall('<polyline points="([^"]*)"', text)]
+        # (each chord of a helix has its own height, and its own colour)
+        self.assertEqual((max(lines), lines.count(33), lines.count(2)), (33, 1, 3 + 32))
 
     def test_columns_are_squares_of_a_pitch(self):
         marks = Marks()

@@ -13,6 +13,12 @@ ROOT = os.path.dirname(os.path.dirname(os.path.dirname(os.path.abspath(__file__)
 PLATE = os.path.join(ROOT, "examples", "plate")
 
 
+def text_of_plate(name):
+    """The bytes of one of the plate's files."""
+    with open(os.path.join(PLATE, name), "rb") as file:
+        return file.read()
+
+
 class Shown(unittest.TestCase):
     def setUp(self):
         made = tempfile.TemporaryDirectory()
@@ -98,11 +104,23 @@ class Shown(unittest.TestCase):
         _, said = self.shown("accepted moves 2 columns 9 left 0.00 band 0.00 allowance 0.00", names)
         self.assertIn("each axis may run at its own speed on a rapid", "\n".join(said))
 
+    def test_a_chord_of_an_arc(self):
+        job = text_of_plate("job.toml") + b'words = "machine"\nstart = "anywhere"\nslack = 3\n'
+        program = b"G21 G90\nG0 Z4\nX1 Y1\nG1 Z2\nG3 I2\nM2\n"
+        status, said = self.shown("rejected gouge move 5 triangle 0 leaf 0 0", self.names(job=job, program=program))
+        self.assertEqual(status, 0)
+        self.assertIn("move 5, a feed along chord 3 of its arc's 32 from X1.15 Y0.23 Z2.00 to", "\n".join(said))
+        _, said = self.shown("rejected gouge move 2 triangle 0 leaf 0 0", self.names(job=job, program=program))
+        self.assertNotIn("chord", "\n".join(said))
+        status, said = self.shown("refused program line 5 arc", self.names(job=job, program=program.replace(b"I2", b"R2")))
+        self.assertIn("the arc isn't taken (it tells a radius: its centre is told by I and J): an arc needs", "\n".join(said))
+
     def test_refusals_of_the_new_keys(self):
         for line, wanted in (
                 ("refused job missing feed", "plan by a copy of the job without `spindle`"), ("refused job range keep_out", "at most 64"),
                 ("refused job range rapids", '"straight" or "axes"'),
-                ("refused job kind spindle", "true or false, without quotes"), ("refused job relation keep_out clear", "raise `clear` over clamps and vice"),
+                ("refused job kind spindle", "true or false, without quotes"), ("refused job range arc_tol", "hundredths of a millimetre from 1 to 100"),
+                ("refused job relation arc_tol slack", "a lesser `arc_tol`"), ("refused job relation keep_out clear", "raise `clear` over clamps and vice"),
                 ("refused program line 2 start", "G0 with Z alone"), ("refused program line 2 no-spindle", "the spindle doesn't turn"), ("refused program line 2 no-feed", "an F over 0")):
             self.assertIn(wanted, self.last(line, self.names()))
 

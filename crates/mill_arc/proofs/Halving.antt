@@ -1,7 +1,7 @@
 -- The chords of a sector, by its halves.
 use Rattle.std.specs.Prelude.{◌≡◌, ℕ, zero, suc, ◌+◌, ◌-◌, ◌*◌, ◌<◌, ◌≤◌, Bool, true, false, if◌then◌else◌, List, [], ◌∷◌, ◌++◌, Option, Some, None}
 use Rattle.std.proofs.Common.{refl, sym, ap, subst, ◌∙◌, append_assoc, arith}
-use Rattle.mill_arc.specs.Chords.{chord_to, chords_from, is_short, joined, middle, with_chords}
+use Rattle.mill_arc.specs.Chords.{chord_to, chords_from, is_short, joined, middle}
 use Rattle.mill_arc.specs.declared.chords.Chord.{Chord}
 use Rattle.mill_arc.specs.declared.chords.Node.{Node}
 use Rattle.mill_arc.specs.declared.chords.Turn.{Turn}

@@ -9,7 +9,7 @@ use Rattle.mill_arc.proofs.Parted.{IsTurn}
 use Rattle.mill_arc.proofs.Quads.{cosine, quad_of}
 use Rattle.mill_arc.proofs.Sides.{IsClear, across_from, across_to, from_is, from_length, side_high, side_low, to_is, to_length}
 use Rattle.mill_arc.proofs.Signs.{IsMiddle, back, near, round}
-use Rattle.mill_arc.proofs.Tests.{both_and, false_lt, le_false, lt_false, lt_true, true_le, true_lt}
+use Rattle.mill_arc.proofs.Decided.{both_and, false_lt, le_false, lt_false, lt_true, true_le, true_lt}
 use Rattle.mill_arc.proofs.TurnCerts.{all_none, back_from, back_to, dot_turned, radii_less, radii_product, radii_some, seven_least, seven_sine, sine_least, sum_from_left, sum_from_right, sum_to_left, sum_to_right, way_double, way_from_left, way_from_right, way_to_left, way_to_right}
 use Rattle.mill_arc.specs.Chords.{is_flat, is_short, middle, toward_middle}
 use Rattle.mill_arc.specs.Vectors.{ahead, dot, opposite, plus, turned_way}

@@ -1,15 +1,15 @@
 mod Roots
-pub mod Tests
+pub mod Decided
 pub mod Soundness
 mod Stored
 mod NodeCerts
+mod TurnCerts
 mod RingCerts
 pub mod Nearest
 pub mod Nodes
 pub mod Middles
 pub mod Halving
 pub mod Parts
-mod TurnCerts
 pub mod Parted
 pub mod Points
 pub mod Nearness
@@ -24,3 +24,5 @@ pub mod Quads
 pub mod Sides
 pub mod Insides
 pub mod Turning
+pub mod Evenness
+pub mod Heights

@@ -6,7 +6,7 @@ use Rattle.mill_base.proofs.Integers.{sq-ℤ}
 use Rattle.mill_base.specs.Numbers.{square}
 use Rattle.mill_arc.proofs.NodeCerts.{back_least, back_most, left_least, left_most, minus_square, plus_least, plus_most, right_least, right_most, root_less, square_order}
 use Rattle.mill_arc.proofs.Nodes.{lengthened_node, node_least, node_most}
-use Rattle.mill_arc.proofs.Tests.{lt_false, lt_true}
+use Rattle.mill_arc.proofs.Decided.{lt_false, lt_true}
 use Rattle.mill_arc.specs.Chords.{middle, toward_middle}
 use Rattle.mill_arc.specs.Vectors.{IsNear, ahead, dot, opposite, plus, turned_way}
 use Rattle.mill_arc.specs.declared.chords.Node.{Node}

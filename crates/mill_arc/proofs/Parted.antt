@@ -5,7 +5,7 @@ use Rattle.std.proofs.Common.{refl, sym, ap, subst, ◌∙◌}
 use Rattle.std.proofs.lemmas.List.Elements.{All-append, All-cons, All-contains, All-nil}
 use Rattle.mill_arc.proofs.Middles.{middle_node}
 use Rattle.mill_arc.proofs.Parts.{arc_ring, end_node, start_node}
-use Rattle.mill_arc.proofs.Tests.{and_left, and_right, le_true, lt_true}
+use Rattle.mill_arc.proofs.Decided.{and_left, and_right, le_true, lt_true}
 use Rattle.mill_arc.specs.Arcs.{greatest_radius, least_radius, nanometres_of}
 use Rattle.mill_arc.specs.Chords.{chord_to, chords_from, end_of, is_flat, is_short, joined, middle, start_of, turn_of}
 use Rattle.mill_arc.specs.Rings.{IsChordOf}
@@ -26,17 +26,17 @@ pub data Parted (turn : Turn) : Node → Node → List Chord → Type 0 where
       → cs ≡ first ++ second → Parted turn u v cs
 
 -- a list that two were joined to
-record AreJoined (a b : Option (List Chord)) (cs : List Chord) : Type 0 where
-  first : List Chord
-  second : List Chord
-  first_is : a ≡ Some first
-  second_is : b ≡ Some second
-  is : cs ≡ first ++ second
+pub record AreJoined (a b : Option (List Chord)) (cs : List Chord) : Type 0 where
+  pub first : List Chord
+  pub second : List Chord
+  pub first_is : a ≡ Some first
+  pub second_is : b ≡ Some second
+  pub is : cs ≡ first ++ second
 
-some_same : (xs ys : List Chord) → Some xs ≡ Some ys → xs ≡ ys
+pub some_same : (xs ys : List Chord) → Some xs ≡ Some ys → xs ≡ ys
 some_same xs ys e = cc
 
-joined_some : (a b : Option (List Chord)) (cs : List Chord) → joined a b ≡ Some cs → AreJoined a b cs
+pub joined_some : (a b : Option (List Chord)) (cs : List Chord) → joined a b ≡ Some cs → AreJoined a b cs
 joined_some None b cs e = cc
 joined_some (Some xs) None cs e = cc
 joined_some (Some xs) (Some ys) cs e = record { first = xs; second = ys; first_is = refl; second_is = refl; is = sym (some_same (xs ++ ys) cs e) }

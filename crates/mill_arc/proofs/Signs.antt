@@ -3,7 +3,7 @@ use Rattle.std.specs.Prelude.{◌≡◌, ◌+◌, Bool, true, false, not, ◌&&�
 use Rattle.std.proofs.Common.{refl, sym, ap, ◌∙◌, arith}
 use Rattle.std.proofs.lemmas.Int.{ints}
 use Rattle.mill_arc.proofs.Counts.{number, count_first, count_less, count_more, count_second, first_low, first_none, first_up, half_low, half_none, half_up, second_low, second_none, second_up, whole_first, whole_low, whole_none, whole_second, whole_up}
-use Rattle.mill_arc.proofs.Tests.{false_le, false_lt, lt_false, lt_true, true_le, true_lt}
+use Rattle.mill_arc.proofs.Decided.{false_le, false_lt, lt_false, lt_true, true_le, true_lt}
 use Rattle.mill_arc.proofs.SignCerts.{along_high, along_low, b_high, b_low, back_high, back_low, end_high, end_low, end_none, first_neg, first_pos, first_side, half_c_high, half_c_low, half_c_none, last_high, last_low, line_high, line_least, line_low, line_most, middle_high, middle_low, second_high_side, second_low_side, second_neg, second_none_least, second_none_most, second_pos, second_side}
 use Rattle.mill_arc.proofs.TurnCerts.{all_none, comb_neg, comb_pos, more_all, more_none_a, more_none_b, off_least, off_most}
 

@@ -3,7 +3,7 @@ use Rattle.std.specs.Prelude.{◌≡◌, Bool, true, false, not, ◌^◌, ℤ, p
 use Rattle.std.proofs.Common.{refl, arith, ap₂}
 use Rattle.std.specs.Ordering.{int_eq}
 use Rattle.std.proofs.lemmas.Int.{ints}
-use Rattle.mill_arc.proofs.Tests.{and_left, and_right, both_and, le_true, not_true, true_lt}
+use Rattle.mill_arc.proofs.Decided.{and_left, and_right, both_and, le_true, not_true, true_lt}
 use Rattle.mill_arc.specs.Arcs.{IsSound, IsUnclear, deviation_of, greatest_radius, is_near, is_ring, is_round, is_same, is_unclear, least_radius}
 use Rattle.mill_arc.specs.Vectors.{dot, vector}
 use Rattle.mill_arc.specs.declared.arc.Arc.{Arc}

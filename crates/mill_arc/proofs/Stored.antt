@@ -1,5 +1,5 @@
 -- Numbers in range keep their value in the machine's words.
-use Rattle.std.proofs.Common.{◌≡◌, ℕ, ◌<◌, w64, FitsSigned, to_z, of_z, arith}
+use Rattle.std.proofs.Common.{◌≡◌, ℕ, ◌<◌, w64, FitsSigned, to_z, arith}
 use Rattle.std.specs.Prelude.{◌^◌, ℤ, pos}
 use Rattle.std.proofs.lemmas.Int.{ints}
 use mir.Syntax.{w128}

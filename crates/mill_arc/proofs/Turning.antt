@@ -14,7 +14,7 @@ use Rattle.mill_arc.proofs.Parts.{arc_ring, end_node, start_node}
 use Rattle.mill_arc.proofs.Quads.{on_is, quad_of}
 use Rattle.mill_arc.proofs.Rounding.{unit_least}
 use Rattle.mill_arc.proofs.Signs.{parted}
-use Rattle.mill_arc.proofs.Tests.{true_lt}
+use Rattle.mill_arc.proofs.Decided.{true_lt}
 use Rattle.mill_arc.specs.Arcs.{greatest_radius, least_radius, nanometres_of}
 use Rattle.mill_arc.specs.Chords.{end_of, is_short, middle, start_of, turn_of}
 use Rattle.mill_arc.specs.Sectors.{Sector, sector, sectors_from}

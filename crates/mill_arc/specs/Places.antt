@@ -1,5 +1,5 @@
 -- Numbers rounded to whole units, as a control's reader rounds them.
-use Rattle.std.specs.Prelude.{ℕ, suc, ◌+◌, ◌-◌, ◌*◌, ◌/◌, ◌^◌, ℤ, pos, negsuc, neg_ℤ, nat_abs, ◌+ℤ◌, ◌*ℤ◌}
+use Rattle.std.specs.Prelude.{◌≡◌, ℕ, suc, ◌+◌, ◌-◌, ◌*◌, ◌/◌, ◌^◌, ℤ, pos, negsuc, neg_ℤ, nat_abs, ◌+ℤ◌, ◌*ℤ◌}
 use Rattle.mill_base.specs.declared.unit.Unit.{Unit}
 use Rattle.mill_arc.specs.Arcs.{nanometres_of}
 
@@ -23,3 +23,7 @@ height_at from to part depth = from *ℤ pos (2 ^ depth - part) +ℤ to *ℤ pos
 -- the same in units
 abbrev pub height_of : Unit → ℤ → ℤ → ℕ → ℕ → ℤ
 height_of unit from to part depth = nearest (height_at from to part depth) (2 ^ depth * nat_abs (nanometres_of unit))
+
+-- at the end of the turn the height is that of the end, rounded
+abbrev pub LastHeightIsEnd : Type 0
+LastHeightIsEnd = (unit : Unit) (from to : ℤ) (depth : ℕ) → height_of unit from to (2 ^ depth) depth ≡ nearest to (nat_abs (nanometres_of unit))

@@ -1,5 +1,5 @@
 -- Which directions an arc turns over, and which of them its chords stand for.
-use Rattle.std.specs.Prelude.{◌≡◌, Bool, true, not, ◌&&◌, ◌||◌, if◌then◌else◌, cond, List, Some, pos, ◌<ℤ◌, int_le, int_lt}
+use Rattle.std.specs.Prelude.{◌≡◌, ℕ, ◌+◌, ◌*◌, ◌^◌, true, Bool, not, ◌&&◌, ◌||◌, if◌then◌else◌, cond, List, [], ◌∷◌, Some, pos, ◌<ℤ◌, int_le, int_lt}
 use Rattle.std.specs.List.{count_by}
 use Rattle.mill_arc.specs.Arcs.{IsArc, IsSound}
 use Rattle.mill_arc.specs.Chords.{chords_of}
@@ -33,3 +33,12 @@ pub record AreTurn (arc : Arc) (cs : List Chord) : Type 0 where
 -- the chords of an arc are its turn
 abbrev pub ChordsAreTurn : Type 0
 ChordsAreTurn = (arc : Arc) (cs : List Chord) → IsArc arc → IsSound arc → chords_of arc ≡ Some cs → AreTurn arc cs
+
+-- so many of 2^depth parts of the turn lie behind; each chord is the next part, of 2 to its own depth, and the last one ends the turn
+abbrev pub GoesOn : ℕ → ℕ → List Chord → Type 0
+GoesOn part depth [] = part ≡ 2 ^ depth
+GoesOn part depth (c ∷ cs) = (c.part * 2 ^ depth ≡ part * 2 ^ c.depth + 2 ^ depth) × GoesOn c.part c.depth cs
+
+-- the chords' parts are the whole turn, one behind the other
+abbrev pub PartsAreTurn : Type 0
+PartsAreTurn = (arc : Arc) (cs : List Chord) → chords_of arc ≡ Some cs → GoesOn 0 0 cs

@@ -53,7 +53,8 @@ struct Node {
 
 impl Arc {
     /// Adds the arc's chords, in order, if no part of its turn had to be halved more than 16 times
-    /// for them. Else it adds none, and the answer is `false`.
+    /// for them. Else it adds none, and the answer is `false`. Where memory gives out, the first
+    /// chords may have been added.
     pub fn chords(&self, chords: &mut Vec<Chord>) -> Result<bool, WantOfMemory>
         requires arc { IsArc self.now }
         requires sound { IsSound self.now }

@@ -1,5 +1,5 @@
 -- A hole that a line may drill is one that goes down in range, and its moves are kept.
-use Rattle.std.proofs.Common.{◌≡◌, ℕ, ◌+◌, ◌≤◌, Bool, true, false, Option, Some, None, Result, Ok, List, [], ◌∷◌, ◌++◌, length, refl, sym, subst, ◌∙◌, arith, inl}
+use Rattle.std.proofs.Common.{Err, ◌≡◌, ℕ, ◌+◌, ◌≤◌, Bool, true, false, Option, Some, None, Result, Ok, List, [], ◌∷◌, ◌++◌, length, refl, sym, subst, ◌∙◌, arith, inl}
 use Rattle.std.proofs.lemmas.Bool.Decides.{nat_tests}
 use Rattle.std.proofs.lemmas.Int.{ints}
 use Rattle.std.specs.Prelude.{⊤, ℤ, pos, ◌≤ℤ◌, ◌&&◌, ◌||◌, cond, int_lt, nat_lt, not}
@@ -114,6 +114,16 @@ hole_is c p s v x y bottom top at-x at-y low high peck =
   where
     by : (a b d e : Result ℤ NgcFault) (q : Result ⊤ NgcFault) → a ≡ Ok x → b ≡ Ok y → d ≡ Ok bottom → e ≡ Ok top → q ≡ Ok tt
         → (a >>= λ x. b >>= λ y. d >>= λ z. e >>= λ top. q >>= λ _. Ok (hole_of c p v x y top)) ≡ Ok (hole_of c p v x y top)
+    by a b d e q i j k l m = rw (i, j, k, l, m) refl
+
+pub hole_off : (c : Control) (p : Progress) (s : MachineSaid) (v : Series) (x y bottom top : ℤ) (f : NgcFault) → coordinate_for c p p.here.x s.x ≡ Ok x → coordinate_for c p p.here.y s.y ≡ Ok y
+    → coordinate_for c p p.here.z v.z ≡ Ok bottom → coordinate_for c p p.here.z v.r ≡ Ok top → peck_fits c p s.q ≡ Err f → hole_for c p s v ≡ Err f
+unfolding hole_for
+hole_off c p s v x y bottom top f at-x at-y low high peck =
+    by (coordinate_for c p p.here.x s.x) (coordinate_for c p p.here.y s.y) (coordinate_for c p p.here.z v.z) (coordinate_for c p p.here.z v.r) (peck_fits c p s.q) at-x at-y low high peck
+  where
+    by : (a b d e : Result ℤ NgcFault) (q : Result ⊤ NgcFault) → a ≡ Ok x → b ≡ Ok y → d ≡ Ok bottom → e ≡ Ok top → q ≡ Err f
+        → (a >>= λ x. b >>= λ y. d >>= λ z. e >>= λ top. q >>= λ _. Ok (hole_of c p v x y top)) ≡ Err f
     by a b d e q i j k l m = rw (i, j, k, l, m) refl
 
 -- ---- its moves

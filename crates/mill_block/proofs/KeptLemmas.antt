@@ -4,7 +4,7 @@ use Rattle.std.proofs.lemmas.Bool.Decides.{nat_tests}
 use Rattle.std.proofs.lemmas.Int.{ints}
 use Rattle.std.proofs.lemmas.List.{append-nil, length-replicate, replicate-append-replicate}
 use Rattle.std.proofs.lemmas.List.Elements.{All-cons, All-contains, All-nil}
-use Rattle.std.specs.Prelude.{All as AllOf, OnOk, Result, ◌⊎◌, ◌≢◌, ◌≤ℤ◌, replicate, nat_lt, not, if◌then◌else◌}
+use Rattle.std.specs.Prelude.{All as AllOf, OnOk, Result, ℤ, ◌+ℤ◌, ◌-ℤ◌, ◌*ℤ◌, ◌⊎◌, ◌≢◌, ◌≤ℤ◌, replicate, nat_lt, not, if◌then◌else◌}
 use Rattle.mill_base.specs.Motion.{Follow}
 use Rattle.mill_base.specs.Ranges.{IsInUnitRange, MoveInUnitRange}
 use Rattle.mill_base.specs.declared.limits.TheConstants.{MAX_MOVES}
@@ -19,9 +19,14 @@ use Rattle.mill_control.specs.Offsets.{may_name}
 use Rattle.mill_control.specs.Places.{allows, raised}
 use Rattle.mill_control.specs.declared.place.Place.{Place}
 use Rattle.mill_words.specs.Words.{Line, is_blank as is_blank_line}
-use Rattle.mill_block.specs.MachineLines.{Done, above_of, acts_by, arrived, gone_to, machine_behind, names_by, names_height, naming_of, parks, place_of, rise, still_at, with_place, with_stop}
+use Rattle.mill_block.specs.MachineLines.{Done, above_of, acts_by, arrived, exact_to, exactly, gone_to, machine_behind, names_by, names_height, naming_of, parks, place_of, rise, still_at, with_place, with_stop}
 use Rattle.mill_block.specs.MachineSettings.{has_lengths, settled_for}
 use Rattle.mill_block.specs.Motion.{known_of}
+use Rattle.mill_block.specs.TextPlaces.{exact_here, exactly_at, text_above}
+use Rattle.mill_block.specs.inner.Finers.{IsExactly}
+use Rattle.mill_control.specs.Unrounded.{parts}
+use Rattle.mill_block.specs.declared.machine.Finer.{Finer}
+use Rattle.mill_block.proofs.FinerLemmas.{goes_there}
 use Rattle.mill_said.specs.Said.{◌>>=◌}
 use Rattle.mill_block.specs.declared.machine.Machine.{Machine}
 use Rattle.mill_said.specs.declared.machine_said.MachineSaid.{MachineSaid}
@@ -29,6 +34,7 @@ use Rattle.mill_block.specs.declared.progress.Known.{Known}
 use Rattle.mill_block.specs.declared.progress.Known.TheVariants.{Nothing, Height, All}
 use Rattle.mill_block.specs.declared.progress.Progress.{Progress}
 use Rattle.mill_said.specs.declared.fault.NgcFault.{NgcFault}
+use Rattle.mill_said.specs.declared.fault.NgcFault.TheVariants as fault
 use Rattle.mill_said.specs.declared.rules.Control.{Control}
 use Rattle.mill_said.specs.declared.rules.Words.{Words}
 use Rattle.mill_said.specs.declared.rules.Words.TheVariants.{Machine as MachineWords}
@@ -40,6 +46,7 @@ pub stays_fit : (old new : Progress) → FitsProgress old → Stays old new → 
 stays_fit old new fits stays = record {
   clear_fits = rw (stays.same_unit, stays.same_clear) fits.clear_fits;
   series_fits = rw stays.same_series fits.series_fits;
+  finer_fits = rw stays.same_finer fits.finer_fits;
 }
 
 -- what is kept stays so whatever else of the machine is settled
@@ -60,13 +67,26 @@ keeps-machine old mid made m k = record {
   same_line = k.same_line;
 }
 
-pub placed : (told : Done) (f : Machine → Machine) (old mid : Progress) (moves more : List Move) → Adds told old moves mid more
-    → Adds (told >>= λ done. Ok (with_place f done)) old moves (record mid { machine = f mid.machine }) more
-placed told f old mid moves more adds = record {
+-- by the text's own numbers the tool is where the line leads
+beside : (a f t : ℤ) → (a +ℤ f) ≡ t → (t -ℤ a) ≡ f
+beside a f t e = omega (arith, ints)
+
+same-finer : (f : Finer) (x y z : ℤ) → x ≡ f.x → y ≡ f.y → z ≡ f.z → record { x = x; y = y; z = z } ≡ f
+same-finer f x y z i j k = rw (i, j, k) refl
+
+exactly-there : (t : Pt3) (finer : Finer) (p : Progress) → IsExactly finer p.here t → exactly_at t p ≡ record p { machine = record p.machine { finer = finer } }
+exactly-there t finer p is =
+    ap (λ (f : Finer). record p { machine = record p.machine { finer = f } })
+    (same-finer finer (t.x -ℤ (parts *ℤ p.here.x)) (t.y -ℤ (parts *ℤ p.here.y)) (t.z -ℤ (parts *ℤ p.here.z))
+    (beside (parts *ℤ p.here.x) finer.x t.x is.x_is) (beside (parts *ℤ p.here.y) finer.y t.y is.y_is) (beside (parts *ℤ p.here.z) finer.z t.z is.z_is))
+
+pub placed : (told : Done) (f : Machine → Machine) (t : Pt3) (finer : Finer) (old mid : Progress) (moves more : List Move) → Adds told old moves mid more → IsExactly finer mid.here t
+    → Adds (told >>= λ done. Ok (exactly t (with_place f done))) old moves (record mid { machine = record (f mid.machine) { finer = finer } }) more
+placed told f t finer old mid moves more adds is = record {
   made = adds.made;
-  told = rw adds.told refl;
+  told = rw adds.told (ap (λ (q : Progress). Ok (q, adds.made)) (exactly-there t finer (record mid { machine = f mid.machine }) is));
   added = adds.added;
-  keeps = keeps-machine old mid adds.made (f mid.machine) adds.keeps;
+  keeps = keeps-machine old mid adds.made (record (f mid.machine) { finer = finer }) adds.keeps;
 }
 
 -- a line that changes nothing
@@ -172,11 +192,40 @@ stopped c s false told old mid new moves more adds new_is = rw new_is (record {
 
 -- ---- up to the machine's place
 
-pub risen : (p mid new : Progress) (to : Pt3) (place : Place) (moves more : List Move) → to ≡ above_of p → Adds (gone_to (known_of p) p Rapid false to) p moves mid more → place ≡ raised mid.machine.place
-    → new ≡ record mid { machine = record mid.machine { place = place } } → Adds (rise p) p moves new more
-risen p mid new to place moves more to_is adds place_is new_is =
-    rw (new_is, place_is) (placed (gone_to (known_of p) p Rapid false (above_of p)) (λ (m : Machine). record m { place = raised m.place }) p mid moves more
-    (subst (λ (t : Pt3). Adds (gone_to (known_of p) p Rapid false t) p moves mid more) to_is adds))
+pub risen : (p mid new : Progress) (place : Place) (f : ℤ) (moves more : List Move) → Adds (gone_to (known_of p) p Rapid false (above_of p)) p moves mid more → Stays p mid → place ≡ raised mid.machine.place
+    → ((parts *ℤ (above_of p).z) +ℤ f) ≡ (text_above p (exact_here p)).z
+    → new ≡ record mid { machine = record mid.machine { place = place; finer = record mid.machine.finer { z = f } } } → Adds (rise p) p moves new more
+risen p mid new place f moves more adds stays place_is text new_is =
+    let there : mid.here ≡ above_of p = goes_there (known_of p) p Rapid false (above_of p) (mid, adds.made) adds.told in
+    let finer : Finer = record mid.machine.finer { z = f } in
+    let exact : IsExactly finer mid.here (text_above p (exact_here p)) = rw (there, stays.same_finer) (record { x_is = refl; y_is = refl; z_is = text }) in
+    rw (new_is, place_is) (placed (gone_to (known_of p) p Rapid false (above_of p)) (λ (m : Machine). record m { place = raised m.place }) (text_above p (exact_here p)) finer p mid moves more adds exact)
+
+-- ---- a line that names coordinates
+
+-- where no check fails
+gated : (late may names lengths absolute : Bool) (f g h i j : NgcFault) (told : Done) → late ≡ false → may ≡ true → names ≡ true → lengths ≡ true → absolute ≡ true
+    → (if late then Err f else (if not may then Err g else (if not names then Err h else (if not lengths then Err i else (if not absolute then Err j else told))))) ≡ told
+gated true may names lengths absolute f g h i j told a b c d e = absurd cc
+gated false false names lengths absolute f g h i j told a b c d e = absurd cc
+gated false true false lengths absolute f g h i j told a b c d e = absurd cc
+gated false true true false absolute f g h i j told a b c d e = absurd cc
+gated false true true true false f g h i j told a b c d e = absurd cc
+gated false true true true true f g h i j told a b c d e = refl
+
+pub named_so : (c : Control) (p mid new : Progress) (s : MachineSaid) (finer : Finer) (moves more : List Move) → Adds (acts_by c p s p.mode p.machine.cycle p.machine.turn) p moves mid more
+    → ((done : Progress × List Move) → acts_by c p s p.mode p.machine.cycle p.machine.turn ≡ Ok done → IsExactly finer done.0.here (exact_to p s p.machine.cycle))
+    → p.machine.late ≡ false → allows (place_of p) (naming_of p s) ≡ true → may_name p.machine.named p.machine.offsets (names_height p.machine.cycle s) (parks s) ≡ true
+    → has_lengths p ≡ true → p.absolute ≡ true
+    → new ≡ record mid { machine = record (machine_behind p s mid.machine) { finer = finer } } → Adds (names_by c p s) p moves new more
+unfolding names_by
+named_so c p mid new s finer moves more adds exact late may names lengths absolute new_is =
+    let acts = acts_by c p s p.mode p.machine.cycle p.machine.turn >>= λ done. Ok (exactly (exact_to p s p.machine.cycle) (with_place (machine_behind p s) done)) in
+    subst (λ (told : Done). Adds told p moves new more)
+    (sym (gated p.machine.late (allows (place_of p) (naming_of p s)) (may_name p.machine.named p.machine.offsets (names_height p.machine.cycle s) (parks s)) (has_lengths p) p.absolute
+    (fault.LateTool p.line) (fault.Start p.line) (fault.LateOffset p.line) (fault.NoUnits p.line) (fault.NoAbsolute p.line) acts late may names lengths absolute))
+    (subst (λ (end : Progress). Adds acts p moves end more) (sym new_is)
+    (placed (acts_by c p s p.mode p.machine.cycle p.machine.turn) (machine_behind p s) (exact_to p s p.machine.cycle) finer p mid moves more adds (exact (mid, adds.made) adds.told)))
 
 -- ---- the line before the words are taken
 

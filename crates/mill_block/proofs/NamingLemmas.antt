@@ -90,5 +90,5 @@ drills-known Nothing p n drills e =
     across-first (height_allows p.height n && low_allows (record p { across = false }) n) (across_allows (record p { across = false }) n) n.needs_place (is_known p.height) drills e in
     absurd cc
 
-pub drills_known : (p : Progress) (s : MachineSaid) → is_some p.machine.cycle ≡ true → allows (place_of p) (naming_of p s) ≡ true → known_of p ≡ All
+pub drills_known : (p : Progress) (s : MachineSaid) → (is_some p.machine.cycle || is_some p.machine.turn) ≡ true → allows (place_of p) (naming_of p s) ≡ true → known_of p ≡ All
 drills_known p s drills may = drills-known (known_of p) p.machine.place (naming_of p s) drills may

@@ -18,7 +18,8 @@ use Rattle.mill_control.specs.declared.place.Place.{Place}
 use Rattle.mill_block.specs.MachineLines.{place_in, place_of}
 use Rattle.mill_block.specs.Motion.{is_rapid}
 use Rattle.mill_block.specs.RealWays.{IsForeseen, IsHeight, IsHigh, IsToClear, LeavesTip, MayBeAt}
-use Rattle.mill_block.specs.TextPaths.{parts, text_or, text_units}
+use Rattle.mill_control.specs.Unrounded.{parts, text_units}
+use Rattle.mill_block.specs.TextPlaces.{text_or}
 use Rattle.mill_said.specs.declared.profile.Mode.TheVariants.{On}
 use Rattle.mill_block.specs.declared.progress.Known.{Known as Knowing}
 use Rattle.mill_block.specs.declared.progress.Known.TheVariants.{Nothing, Height as Upright, All as Whole}

@@ -1,7 +1,7 @@
 -- A machine's ways on a line are foreseen by the list, and its tip may be where they end.
 use Rattle.std.proofs.Common.{◌≡◌, ℕ, ◌+◌, ◌^◌, Bool, true, false, Option, Some, None, Result, Ok, Err, List, [], ◌∷◌, length, replicate, refl, sym, ap, subst, ◌∙◌, inl, inr}
 use Rattle.std.proofs.lemmas.List.Elements.{All-cons, All-contains_itself, All-nil}
-use Rattle.std.specs.Prelude.{⊤, ◌==◌, ℤ, All, int_le, is_some, not, ◌&&◌, ◌||◌, nat_le, nat_lt, IfSome, if◌then◌else◌}
+use Rattle.std.specs.Prelude.{⊤, ◌==◌, ℤ, pos, All, int_le, is_some, not, ◌&&◌, ◌||◌, nat_le, nat_lt, IfSome, if◌then◌else◌}
 use Rattle.mill_base.specs.Rounded.{IsRounded}
 use Rattle.mill_base.specs.declared.limits.TheConstants.{MAX_MOVES}
 use Rattle.mill_base.specs.declared.motion.Kind.{Kind}
@@ -26,13 +26,19 @@ use Rattle.mill_control.specs.declared.series.Cycle.{Cycle}
 use Rattle.mill_control.specs.declared.series.Series.{Series}
 use Rattle.mill_block.specs.Drives.{driven_or_fault}
 use Rattle.mill_block.specs.Lines.{acted_by, after_line, after_words, has_frame, in_frame, is_percent, line_begun, line_in, settled_before, with_line, with_percent, words_or_fault}
-use Rattle.mill_block.specs.MachineLines.{Done, above_of, acts_by, arrived, axis_done, coordinate_for, drilled, drills_hole, gone_to, gone_up, hole_for, idles, is_drillable, is_idle, is_safe, machine_acted, machine_behind, machine_done, names_by, names_height, naming_of, park, parks, place_in, place_of, rise, series_for, stands, still_at, target_for, up_fits, waits, went, with_place, with_stop}
-use Rattle.mill_said.specs.MachineSaid.{names_axis, told_line}
+use Rattle.mill_block.specs.MachineLines.{Done, above_of, acts, acts_by, arrived, axis_done, coordinate_for, drilled, drills_hole, exact_to, exactly, gone_to, gone_up, hole_for, idles, is_drillable, is_idle, is_safe, machine_acted, machine_behind, machine_done, names_by, names_height, naming_of, park, parks, place_in, place_of, points_of, rise, series_for, stands, still_at, target_for, turned, up_fits, waits, went, went_round, with_place, with_stop}
+use Rattle.mill_said.specs.MachineSaid.{told_line}
 use Rattle.mill_block.specs.MachineSettings.{has_lengths, is_of_tool, offsets_behind, per_of, settled_for, with_length, with_tool}
 use Rattle.mill_block.specs.Motion.{known_of}
 use Rattle.mill_block.specs.RealWays.{AxisGoes, GoesAcross, GoesAway, GoesUp, IsForeseen, IsHeight, IsHigh, LeavesTip, LineGoes, LineIsForeseen, MayBeAt, MayGo, SaidGoes, TellsWay, ToldGoes, WordsGo, real_acts}
 use Rattle.mill_said.specs.Said.{◌>>=◌}
-use Rattle.mill_block.specs.TextPaths.{Way, text_above, text_acts, text_done, text_drilled, text_gone, text_in, text_line, text_named, text_target, text_told, text_units, text_words}
+use Rattle.mill_block.specs.MachineArcs.{fed, sweep_of, words_fit}
+use Rattle.mill_block.specs.TextPaths.{FitsText, Way, text_acts, text_done, text_drilled, text_gone, text_in, text_line, text_named, text_told, text_turned, text_words}
+use Rattle.mill_block.specs.TextPlaces.{exact_here, text_above, text_target}
+use Rattle.mill_block.specs.declared.machine_arc.Sweep.{Sweep}
+use Rattle.mill_control.specs.Drilled.{ends_at}
+use Rattle.mill_control.specs.Unrounded.{text_units}
+use Rattle.mill_control.specs.declared.turn.Turn.{Turn}
 use Rattle.mill_said.specs.declared.fault.NgcFault.{NgcFault}
 use Rattle.mill_said.specs.declared.fault.NgcFault.TheVariants as fault
 use Rattle.mill_block.specs.declared.machine.Machine.{Machine}
@@ -52,7 +58,7 @@ use Rattle.mill_said.specs.Bounds.{FitsTold}
 use Rattle.mill_block.proofs.RealLemmas.{Allows, AreHigh, Sure, all_known, allowed, behind_far, choice_in, far_foreseen, high_near, high_over, leads_to, length_in, may_be, naming, parked_high, raised_in, same_place, sure_behind, sure_of, sure_there, tool_in, way_foreseen, zero_in}
 use Rattle.mill_block.proofs.RiseLemmas.{at_most, end_z}
 use Rattle.mill_block.proofs.TextLemmas.{number_near}
-use Rattle.mill_block.proofs.TextWays.{units_taken}
+use Rattle.mill_block.proofs.TextWays.{near_exact, units_taken}
 use Rattle.mill_said.proofs.TextFits.{told_fits}
 
 -- ---- steps
@@ -79,6 +85,16 @@ on-ok (Err e) f P h = tt
 -- the machine's ways are foreseen by these ways of the list, and its tip may be where they end
 Lands : Control → ℤ → Way → Way → Progress × List Move → Type 0
 Lands c clear text way done = MayBeAt c done.0 text.0 way.0 × All (IsForeseen c.rounds clear text.1) way.1
+
+on-more : {A : Type 0} (r : Result A NgcFault) (P Q : A → Type 0) → ((a : A) → P a → Q a) → OnDone r P → OnDone r Q
+unfolding OnDone
+on-more (Ok a) P Q more h = more a h
+on-more (Err e) P Q more h = tt
+
+-- told where it leads by the text's own numbers, the reader knows no more of the machine's place
+lands-exactly : (c : Control) (clear : ℤ) (text way : Way) (t : Pt3) (done : Progress × List Move) → Lands c clear text way done → Lands c clear text way (exactly t done)
+unfolding Lands
+lands-exactly c clear text way t done lands = (record { across = lands.0.across; height = lands.0.height; high = lands.0.high }, lands.1)
 
 one : (rounds : Bool) (clear : ℤ) (ways : List Move) (w : Move) → IsForeseen rounds clear ways w → All (IsForeseen rounds clear ways) (w ∷ [])
 one rounds clear ways w is = All-cons (IsForeseen rounds clear ways) w [] is (All-nil (IsForeseen rounds clear ways))
@@ -126,9 +142,13 @@ nothing-whole e = absurd cc
 
 -- ---- a straight way
 
+-- the line asks for all of the place
+abbrev needs-all : Progress → Bool
+needs-all p = is_some p.machine.cycle || is_some p.machine.turn
+
 -- what the line names, where its mode is this
 abbrev named-as : Progress → MachineSaid → Kind → Naming
-named-as p s kind = naming kind (is_some p.machine.cycle) s.x s.y s.z (λ n. int_le p.clear (rounded (per_of p) n))
+named-as p s kind = naming kind (needs-all p) s.x s.y s.z (λ n. int_le p.clear (rounded (per_of p) n))
 
 names-so : (p : Progress) (s : MachineSaid) (kind : Kind) → p.mode ≡ On kind → naming_of p s ≡ named-as p s kind
 names-so p s kind mode = rw mode refl
@@ -183,18 +203,18 @@ goes-straight : (c : Control) (p : Progress) (at q to : Pt3) (s : MachineSaid) (
 unfolding OnDone Lands
 goes-straight c p at q to s kind high mode sure may k known = by k known
   where
-    names : naming_of p s ≡ naming kind (is_some p.machine.cycle) s.x s.y s.z (λ n. int_le p.clear (rounded (per_of p) n))
+    names : naming_of p s ≡ naming kind (needs-all p) s.x s.y s.z (λ n. int_le p.clear (rounded (per_of p) n))
     names = names-so p s kind mode
 
-    may-so : Allows (place_of p) (naming kind (is_some p.machine.cycle) s.x s.y s.z (λ n. int_le p.clear (rounded (per_of p) n)))
+    may-so : Allows (place_of p) (naming kind (needs-all p) s.x s.y s.z (λ n. int_le p.clear (rounded (per_of p) n)))
     may-so = subst (λ (n : Naming). Allows (place_of p) n) names may
 
     there : Sure (behind (place_of p) (naming_of p s)) c.rounds p.clear (text_target p at s) (text_target p q s)
     there = subst (λ (n : Naming). Sure (behind (place_of p) n) c.rounds p.clear (text_target p at s) (text_target p q s)) (sym names)
-        (sure_behind (place_of p) c.rounds p.clear (per_of p) kind (is_some p.machine.cycle) at q s.x s.y s.z (λ n. int_le p.clear (rounded (per_of p) n)) high sure may-so)
+        (sure_behind (place_of p) c.rounds p.clear (per_of p) kind (needs-all p) at q s.x s.y s.z (λ n. int_le p.clear (rounded (per_of p) n)) high sure may-so)
 
     apart : (k : Knowing) → known_of p ≡ k → (k ≡ Whole → ⊥) → (ways : List Move) → IsForeseen c.rounds p.clear ways (straight-way p q s kind)
-    apart k known far ways = far-any (place_of p) ways c.rounds p.clear (per_of p) kind (is_some p.machine.cycle) at q s.x s.y s.z (λ n. int_le p.clear (rounded (per_of p) n)) high (far-of k p known far) sure may-so
+    apart k known far ways = far-any (place_of p) ways c.rounds p.clear (per_of p) kind (needs-all p) at q s.x s.y s.z (λ n. int_le p.clear (rounded (per_of p) n)) high (far-of k p known far) sure may-so
 
     by : (k : Knowing) → known_of p ≡ k
         → OnDone (gone_to k p kind (parks s) to) (λ done. Lands c p.clear (text_gone k p kind (parks s) at (text_target p at s)) (text_target p q s, straight-way p q s kind ∷ []) (with_place (machine_behind p s) done))
@@ -206,7 +226,7 @@ goes-straight c p at q to s kind high mode sure may k known = by k known
         (λ _. (
           may_be c (with_place (machine_behind p s) new).0 (behind (place_of p) (naming_of p s)) p.clear (text_target p at s) (text_target p q s) (whole-behind (known_of p) (behind (place_of p) (naming_of p s)) known) refl there,
           one c.rounds p.clear ways (straight-way p q s kind)
-              (way_foreseen (place_of p) c.rounds p.clear (per_of p) kind (is_some p.machine.cycle) at q s.x s.y s.z (λ n. int_le p.clear (rounded (per_of p) n)) high sure may-so),
+              (way_foreseen (place_of p) c.rounds p.clear (per_of p) kind (needs-all p) at q s.x s.y s.z (λ n. int_le p.clear (rounded (per_of p) n)) high sure may-so),
         ))
     by Upright known = goes-first c p at q to s kind (λ e. upright-whole (sym known ∙ e)) (parks s) refl (far-of Upright p known upright-whole) there (apart Upright known upright-whole)
     by Nothing known = goes-first c p at q to s kind (λ e. nothing-whole (sym known ∙ e)) (parks s) refl (far-of Nothing p known nothing-whole) there (apart Nothing known nothing-whole)
@@ -243,21 +263,65 @@ height-is : (c : Control) (p : Progress) (s : MachineSaid) (to : Pt3) → target
 unfolding target_for
 height-is c p s to is = end_z (coordinate_for c p p.here.x s.x) (coordinate_for c p p.here.y s.y) (coordinate_for c p p.here.z s.z) to is
 
-goes-acts : (c : Control) (p : Progress) (at q : Pt3) (s : MachineSaid) (mode : Mode) (cycle : Option Cycle) → p.mode ≡ mode → p.machine.cycle ≡ cycle → FitsTold s
+goes-turned : (c : Control) (p : Progress) (s : MachineSaid) (turn : Turn) (way : Way) → (place_of p).across ≡ true → (place_of p).height ≡ Known
+    → OnDone (turned c p s turn) (λ done. Lands c p.clear way way (with_place (machine_behind p s) done))
+unfolding turned OnDone Lands
+goes-turned c p s turn way across height =
+    let w : Sweep = sweep_of c p s turn in
+    let goes : Done = target_for c p s >>= λ to. points_of p w >>= λ points. went_round p points in
+    on-if (int_le (pos 0) c.arc_room && p.machine.wide_path) (Err (fault.PathControl p.line)) (if not (words_fit c p s) then Err (fault.Arc p.line) else goes) told (λ _. tt)
+    (λ _. on-if (not (words_fit c p s)) (Err (fault.Arc p.line)) goes told (λ _. tt)
+    (λ _. on-then (target_for c p s) (λ to. points_of p w >>= λ points. went_round p points) told
+    (λ to _. on-then (points_of p w) (λ points. went_round p points) told (λ points _. by points))))
+  where
+    told : Progress × List Move → Type 0
+    told done = Lands c p.clear way way (with_place (machine_behind p s) done)
+
+    by : (points : List Pt3) → OnDone (went_round p points) (λ done. Lands c p.clear way way (with_place (machine_behind p s) done))
+    by points =
+        let new : Progress × List Move = (record p { here = ends_at p.here (fed p.here points); positioned = true; moves = p.moves + length points }, fed p.here points) in
+        on-if (nat_lt MAX_MOVES (p.moves + length points)) (Err (fault.TooManyMoves p.line)) (Ok new) (λ done. Lands c p.clear way way (with_place (machine_behind p s) done)) (λ _. tt)
+        (λ _. (
+          may_be c (with_place (machine_behind p s) new).0 (behind (place_of p) (naming_of p s)) p.clear way.0 way.0
+              (whole-behind (known_of p) (behind (place_of p) (naming_of p s)) (whole-of (known_of p) p.machine.place across)) refl (sure_there (place_of p) (naming_of p s) c.rounds p.clear way.0 across height),
+          own c.rounds p.clear way.1,
+        ))
+
+needs-cycle : (a b : Bool) → a ≡ true → (a || b) ≡ true
+needs-cycle true b e = refl
+needs-cycle false b e = absurd cc
+
+needs-turn : (a b : Bool) → b ≡ true → (a || b) ≡ true
+needs-turn true b e = refl
+needs-turn false b e = e
+
+-- where all of the place is known the tip is where the list has it
+place-known : (place : Place) (rounds : Bool) (clear : ℤ) (at q : Pt3) → place.across ≡ true → place.height ≡ Known → Sure place rounds clear at q → q ≡ at
+place-known place rounds clear at q known high sure =
+    let across = sure.across known in
+    let height : q.z ≡ at.z = subst (λ (h : Height). IsHeight h rounds clear at.z q.z) high sure.height in
+    same_place at q across.0 across.1 height
+
+goes-acts : (c : Control) (p : Progress) (at q : Pt3) (s : MachineSaid) (mode : Mode) (cycle : Option Cycle) (turn : Option Turn) → p.mode ≡ mode → p.machine.cycle ≡ cycle → p.machine.turn ≡ turn → FitsTold s
     → Sure (place_of p) c.rounds p.clear at q → Allows (place_of p) (naming_of p s)
-    → OnDone (acts_by c p s mode cycle) (λ done. Lands c p.clear (text_acts c p at s mode cycle) (real_acts c p q s mode cycle) (with_place (machine_behind p s) done))
+    → OnDone (acts_by c p s mode cycle turn) (λ done. Lands c p.clear (text_acts c p at s mode cycle turn) (real_acts c p q s mode cycle turn) (with_place (machine_behind p s) done))
 unfolding OnDone
-goes-acts c p at q s mode (Some cycle) mode_is cycle_is fits sure may =
-    let all = all_known (is_some p.machine.cycle) (place_of p).across (place_of p).height (ap (λ (o : Option Cycle). is_some o) cycle_is) may.hole in
-    let across = sure.across all.0 in
-    let height : q.z ≡ at.z = subst (λ (h : Height). IsHeight h c.rounds p.clear at.z q.z) all.1 sure.height in
-    let same : q ≡ at = same_place at q across.0 across.1 height in
+goes-acts c p at q s mode (Some cycle) turn mode_is cycle_is turn_is fits sure may =
+    let all = all_known (needs-all p) (place_of p).across (place_of p).height (needs-cycle (is_some p.machine.cycle) (is_some p.machine.turn) (ap (λ (o : Option Cycle). is_some o) cycle_is)) may.hole in
+    let same = place-known (place_of p) c.rounds p.clear at q all.0 all.1 sure in
     let way : Way = text_drilled p at s (hole_for c p s (series_for p s cycle)) in
     subst (λ (t : Pt3). OnDone (driven_or_fault p.rules.needs_spindle Feed p.drive p.line >>= λ _. drills_hole c p s cycle)
     (λ done. Lands c p.clear way (text_drilled p t s (hole_for c p s (series_for p s cycle))) (with_place (machine_behind p s) done))) (sym same)
     (on-then (driven_or_fault p.rules.needs_spindle Feed p.drive p.line) (λ _. drills_hole c p s cycle) (λ done. Lands c p.clear way way (with_place (machine_behind p s) done)) (λ _ _. goes-hole c p s cycle way all.0 all.1))
-goes-acts c p at q s Off None mode_is cycle_is fits sure may = tt
-goes-acts c p at q s (On kind) None mode_is cycle_is fits sure may =
+goes-acts c p at q s mode None (Some turn) mode_is cycle_is turn_is fits sure may =
+    let all = all_known (needs-all p) (place_of p).across (place_of p).height (needs-turn (is_some p.machine.cycle) (is_some p.machine.turn) (ap (λ (o : Option Turn). is_some o) turn_is)) may.hole in
+    let same = place-known (place_of p) c.rounds p.clear at q all.0 all.1 sure in
+    let way : Way = text_turned c p at s turn in
+    subst (λ (t : Pt3). OnDone (driven_or_fault p.rules.needs_spindle Feed p.drive p.line >>= λ _. turned c p s turn)
+    (λ done. Lands c p.clear way (text_turned c p t s turn) (with_place (machine_behind p s) done))) (sym same)
+    (on-then (driven_or_fault p.rules.needs_spindle Feed p.drive p.line) (λ _. turned c p s turn) (λ done. Lands c p.clear way way (with_place (machine_behind p s) done)) (λ _ _. goes-turned c p s turn way all.0 all.1))
+goes-acts c p at q s Off None None mode_is cycle_is turn_is fits sure may = tt
+goes-acts c p at q s (On kind) None None mode_is cycle_is turn_is fits sure may =
     on-then (driven_or_fault p.rules.needs_spindle kind p.drive p.line) (λ _. went c p s kind) told
     (λ _ _. on-then (target_for c p s) (λ to. gone_to (known_of p) p kind (parks s) to) told
     (λ to is. goes-straight c p at q to s kind (named-high c p s.z to.z fits.z_fits (height-is c p s to is)) mode_is sure may (known_of p) refl))
@@ -270,24 +334,32 @@ true-unless true e = refl
 true-unless false e = absurd cc
 
 goes-names : (c : Control) (p : Progress) (at q : Pt3) (s : MachineSaid) → FitsTold s → Sure (place_of p) c.rounds p.clear at q
-    → OnDone (names_by c p s) (Lands c p.clear (text_acts c p at s p.mode p.machine.cycle) (real_acts c p q s p.mode p.machine.cycle))
+    → OnDone (names_by c p s) (Lands c p.clear (text_acts c p at s p.mode p.machine.cycle p.machine.turn) (real_acts c p q s p.mode p.machine.cycle p.machine.turn))
 unfolding names_by OnDone
 goes-names c p at q s fits sure =
-    let acts : Done = acts_by c p s p.mode p.machine.cycle >>= λ done. Ok (with_place (machine_behind p s) done) in
-    let measured : Done = if not p.absolute then Err (fault.NoAbsolute p.line) else acts in
+    let goes : Done = acts_by c p s p.mode p.machine.cycle p.machine.turn >>= λ done. Ok (exactly (exact_to p s p.machine.cycle) (with_place (machine_behind p s) done)) in
+    let measured : Done = if not p.absolute then Err (fault.NoAbsolute p.line) else goes in
     let lengths : Done = if not (has_lengths p) then Err (fault.NoUnits p.line) else measured in
-    let offset : Done = if not (may_name p.machine.named p.machine.offsets (names_height s) (parks s)) then Err (fault.LateOffset p.line) else lengths in
+    let offset : Done = if not (may_name p.machine.named p.machine.offsets (names_height p.machine.cycle s) (parks s)) then Err (fault.LateOffset p.line) else lengths in
     let placed : Done = if not (allows (place_of p) (naming_of p s)) then Err (fault.Start p.line) else offset in
     on-if p.machine.late (Err (fault.LateTool p.line)) placed told (λ _. tt)
     (λ _. on-if (not (allows (place_of p) (naming_of p s))) (Err (fault.Start p.line)) offset told (λ _. tt)
-    (λ may. on-if (not (may_name p.machine.named p.machine.offsets (names_height s) (parks s))) (Err (fault.LateOffset p.line)) lengths told (λ _. tt)
+    (λ may. on-if (not (may_name p.machine.named p.machine.offsets (names_height p.machine.cycle s) (parks s))) (Err (fault.LateOffset p.line)) lengths told (λ _. tt)
     (λ _. on-if (not (has_lengths p)) (Err (fault.NoUnits p.line)) measured told (λ _. tt)
-    (λ _. on-if (not p.absolute) (Err (fault.NoAbsolute p.line)) acts told (λ _. tt)
-    (λ _. on-ok (acts_by c p s p.mode p.machine.cycle) (with_place (machine_behind p s)) told
-    (goes-acts c p at q s p.mode p.machine.cycle refl refl fits sure (allowed (place_of p) (naming_of p s) (true-unless (allows (place_of p) (naming_of p s)) may))))))))
+    (λ _. on-if (not p.absolute) (Err (fault.NoAbsolute p.line)) goes told (λ _. tt)
+    (λ _. on-ok (acts_by c p s p.mode p.machine.cycle p.machine.turn) (λ done. exactly (exact_to p s p.machine.cycle) (with_place (machine_behind p s) done)) told
+    (on-more (acts_by c p s p.mode p.machine.cycle p.machine.turn) (λ done. told (with_place (machine_behind p s) done)) (λ done. told (exactly (exact_to p s p.machine.cycle) (with_place (machine_behind p s) done)))
+    (λ done. lands-exactly c p.clear text real (exact_to p s p.machine.cycle) (with_place (machine_behind p s) done))
+    (goes-acts c p at q s p.mode p.machine.cycle p.machine.turn refl refl refl fits sure (allowed (place_of p) (naming_of p s) (true-unless (allows (place_of p) (naming_of p s)) may)))))))))
   where
+    text : Way
+    text = text_acts c p at s p.mode p.machine.cycle p.machine.turn
+
+    real : Way
+    real = real_acts c p q s p.mode p.machine.cycle p.machine.turn
+
     told : Progress × List Move → Type 0
-    told done = Lands c p.clear (text_acts c p at s p.mode p.machine.cycle) (real_acts c p q s p.mode p.machine.cycle) done
+    told done = Lands c p.clear (text_acts c p at s p.mode p.machine.cycle p.machine.turn) (real_acts c p q s p.mode p.machine.cycle p.machine.turn) done
 
 -- ---- up to the machine's own place, and across to it
 
@@ -354,8 +426,10 @@ goes-risen : (c : Control) (p : Progress) (at q : Pt3) (way : Way) → Sure (pla
     → OnDone (rise p) (Lands c p.clear (text_gone (known_of p) p Rapid false at (text_above p at)) way)
 unfolding OnDone Lands
 goes-risen c p at q way sure is goes =
-    on-ok (gone_to (known_of p) p Rapid false (above_of p)) (with_place (λ (m : Machine). record m { place = raised m.place })) (Lands c p.clear (text_gone (known_of p) p Rapid false at (text_above p at)) way)
-    (by (known_of p))
+    let text : Way = text_gone (known_of p) p Rapid false at (text_above p at) in
+    on-ok (gone_to (known_of p) p Rapid false (above_of p)) (λ done. exactly (text_above p (exact_here p)) (with_place (λ (m : Machine). record m { place = raised m.place }) done)) (Lands c p.clear text way)
+    (on-more (gone_to (known_of p) p Rapid false (above_of p)) (told (known_of p)) (λ done. Lands c p.clear text way (exactly (text_above p (exact_here p)) (with_place (λ (m : Machine). record m { place = raised m.place }) done)))
+    (λ done. lands-exactly c p.clear text way (text_above p (exact_here p)) (with_place (λ (m : Machine). record m { place = raised m.place }) done)) (by (known_of p)))
   where
     high : IsHigh c.rounds p.clear way.0.z
     high = high_over c.rounds p.clear way.0.z goes.rises.high
@@ -412,7 +486,7 @@ goes-up c p at q s u way near sure goes =
 goes-axis : (c : Control) (p : Progress) (at q : Pt3) (s : MachineSaid) (up : Option Up) (way : Way) → FitsTold s → IsRounded c.rounds (10 ^ 18) at p.here → Sure (place_of p) c.rounds p.clear at q → AxisGoes c p s up q way
     → OnDone (axis_done c p s up) (Lands c p.clear (text_named c p at s up) way)
 goes-axis c p at q s None way fits near sure goes =
-    subst (λ (w : Way). OnDone (names_by c p s) (Lands c p.clear (text_acts c p at s p.mode p.machine.cycle) w)) (sym goes) (goes-names c p at q s fits sure)
+    subst (λ (w : Way). OnDone (names_by c p s) (Lands c p.clear (text_acts c p at s p.mode p.machine.cycle p.machine.turn) w)) (sym goes) (goes-names c p at q s fits sure)
 goes-axis c p at q s (Some u) way fits near sure goes = goes-up c p at q s u way near sure goes
 
 goes-still : (c : Control) (p : Progress) (at q : Pt3) (s : MachineSaid) (up : Option Up) → Sure (place_of p) c.rounds p.clear at q → OnDone (stands p s up) (Lands c p.clear (at, []) (q, []))
@@ -426,9 +500,9 @@ goes-still c p at q s up sure = by up
     by None = stays
     by (Some u) = on-if u.by_machine (idles p s) (Err (fault.NotInProfile p.line 71 u.num)) (Lands c p.clear (at, []) (q, [])) (λ _. stays) (λ _. tt)
 
-goes-line : (c : Control) (p : Progress) (at q : Pt3) (s : MachineSaid) (way : Way) → FitsTold s → IsRounded c.rounds (10 ^ 18) at p.here → Sure (place_of p) c.rounds p.clear at q → SaidGoes (names_axis s) c p s q way
+goes-line : (c : Control) (p : Progress) (at q : Pt3) (s : MachineSaid) (way : Way) → FitsTold s → IsRounded c.rounds (10 ^ 18) at p.here → Sure (place_of p) c.rounds p.clear at q → SaidGoes (acts p s) c p s q way
     → OnDone (machine_done c p s) (Lands c p.clear (text_done c p at s) way)
-goes-line c p at q s way fits near sure goes = by (names_axis s) goes
+goes-line c p at q s way fits near sure goes = by (acts p s) goes
   where
     by : (b : Bool) → SaidGoes b c p s q way → OnDone (if b then axis_done c p s s.up else stands p s s.up) (Lands c p.clear (if b then text_named c p at s s.up else (at, [])) way)
     by true goes = goes-axis c p at q s s.up way fits near sure goes
@@ -454,11 +528,6 @@ lands-stopped : (c : Control) (clear : ℤ) (text way : Way) (stops : Bool) (don
 unfolding Lands
 lands-stopped c clear text way true done lands = (record { across = lands.0.across; height = lands.0.height; high = lands.0.high }, lands.1)
 lands-stopped c clear text way false done lands = lands
-
-on-more : {A : Type 0} (r : Result A NgcFault) (P Q : A → Type 0) → ((a : A) → P a → Q a) → OnDone r P → OnDone r Q
-unfolding OnDone
-on-more (Ok a) P Q more h = more a h
-on-more (Err e) P Q more h = tt
 
 goes-acted : (c : Control) (p : Progress) (at r : Pt3) (s : MachineSaid) (way : Way) → FitsTold s → IsRounded c.rounds (10 ^ 18) at p.here → Sure (place_of p) c.rounds p.clear at r → TellsWay c p s r way
     → OnDone (machine_acted c p s) (Lands c p.clear (text_done c (settled_for c p s) at s) way)
@@ -512,5 +581,6 @@ goes-text c p at r line way words near sure goes = goes-in c (line_begun p) at r
 
 pub line_is_foreseen : LineIsForeseen
 unfolding OnDone Lands
-line_is_foreseen c p at r line done way words near may goes is =
+line_is_foreseen c p at r line done way words fits here may goes is =
+    let near : IsRounded c.rounds (10 ^ 18) at p.here = subst (λ (a : Pt3). IsRounded c.rounds (10 ^ 18) a p.here) (sym here) (near_exact c.rounds p fits.finer_fits) in
     subst (λ (d : Done). OnDone d (Lands c p.clear (text_line c p at line) way)) is (goes-text c p at r line way words near (sure_of c p at r may) goes)

@@ -11,7 +11,8 @@ use Rattle.mill_control.specs.declared.hole.Hole.{Hole}
 use Rattle.mill_control.specs.declared.series.Cycle.{Cycle}
 use Rattle.mill_control.specs.declared.series.Cycle.TheVariants.{Drill, Dwell, Peck, Break}
 use Rattle.mill_block.specs.MachineLines.{is_taken}
-use Rattle.mill_block.specs.TextPaths.{parts, text_bitten, text_bottom, text_cleared, text_crossing, text_depth, text_hole, text_lowered, text_over, text_risen, text_stops, text_top}
+use Rattle.mill_control.specs.Unrounded.{parts}
+use Rattle.mill_block.specs.TextPaths.{text_bitten, text_bottom, text_cleared, text_crossing, text_depth, text_hole, text_lowered, text_over, text_risen, text_stops, text_top}
 use Rattle.mill_block.proofs.TextLemmas.{depth_near, near_lesser, near_raised, number_near}
 
 -- ---- ways one behind the other

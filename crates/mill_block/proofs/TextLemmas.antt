@@ -13,7 +13,7 @@ use Rattle.mill_control.proofs.Nearest.{nearest-high, nearest-low, rounded-parts
 use Rattle.mill_words.specs.Words.{FitsNum}
 use Rattle.mill_words.specs.declared.word.Num.{Num}
 use Rattle.mill_block.specs.MachineLines.{is_taken}
-use Rattle.mill_block.specs.TextPaths.{text_units}
+use Rattle.mill_control.specs.Unrounded.{text_units}
 use Rattle.mill_block.proofs.RiseLemmas.{signed-times, some_power}
 
 -- ---- numbers

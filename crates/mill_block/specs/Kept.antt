@@ -1,5 +1,5 @@
 -- What a line keeps of the progress before it, and adds to the moves before it.
-use Rattle.std.specs.Prelude.{◌≡◌, ℕ, ◌+◌, ◌≤◌, ◌≤ℤ◌, ◌⊎◌, List, [], ◌∷◌, ◌++◌, length, IfSome, Result, Ok}
+use Rattle.std.specs.Prelude.{◌≡◌, ℕ, ◌+◌, ◌*◌, ◌^◌, ◌≤◌, ◌≤ℤ◌, ◌⊎◌, List, [], ◌∷◌, ◌++◌, length, IfSome, Result, Ok}
 use Rattle.mill_base.specs.declared.limits.TheConstants.{MAX_MOVES}
 use Rattle.mill_base.specs.Motion.{Follow}
 use Rattle.mill_base.specs.Numbers.{Within}
@@ -9,6 +9,7 @@ use Rattle.mill_base.specs.declared.motion.Move.{Move}
 use Rattle.mill_base.specs.declared.points.Pt3.{Pt3}
 use Rattle.mill_control.specs.Drilled.{FitsSeries, ends_at}
 use Rattle.mill_said.specs.declared.fault.NgcFault.{NgcFault}
+use Rattle.mill_block.specs.declared.machine.Finer.{Finer}
 use Rattle.mill_block.specs.declared.progress.Progress.{Progress}
 use Rattle.mill_block.specs.declared.progress.Known.{Known}
 use Rattle.mill_block.specs.declared.progress.Known.TheVariants.{All}
@@ -23,10 +24,20 @@ begins known before behind = behind
 abbrev pub begin_of : Progress → Progress → Pt3
 begin_of old new = begins (known_of old) old.here new.here
 
--- the safe height is in range, and the numbers that stay from line to line have at most 18 digits
+-- so much, in parts of 10^18 of a unit, a place may have beside its units
+abbrev pub HALF : ℕ
+HALF = 5 * 10 ^ 17
+
+pub record FitsFiner (f : Finer) : Type 0 where
+  pub x_fits : Within HALF f.x
+  pub y_fits : Within HALF f.y
+  pub z_fits : Within HALF f.z
+
+-- the safe height is in range, the numbers that stay from line to line have at most 18 digits, and the text's own place is at most half a unit from the list's
 pub record FitsProgress (p : Progress) : Type 0 where
   pub clear_fits : Within (greatest_of p.unit) p.clear
   pub series_fits : IfSome p.machine.series FitsSeries
+  pub finer_fits : FitsFiner p.machine.finer
 
 -- a line's moves follow on from there to the point behind it, and are so many more of at most 1,000,000; they come only where the tool's place is known behind them, and it stays known; before it was, the tool gets no lower, or no lower than the safe height, which stays; the unit, what is asked beside and the count of lines stay as they are
 pub record Keeps (old : Progress) (made : List Move) (new : Progress) : Type 0 where

@@ -1,6 +1,8 @@
 pub mod Drives
 pub mod Motion
 pub mod MachineSettings
+pub mod TextPlaces
+pub mod MachineArcs
 pub mod MachineLines
 pub mod Lines
 pub mod Kept

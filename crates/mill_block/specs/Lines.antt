@@ -70,7 +70,7 @@ with_line p blank = record p { frame = frame_after p.frame blank }
 
 -- what the lines before a line tell of it
 abbrev pub settled_before : Progress → Before
-settled_before p = record { line = p.line; unit = p.unit; positioned = p.positioned; millimetres = p.millimetres; inches = p.machine.inches; cycle = p.machine.cycle }
+settled_before p = record { line = p.line; unit = p.unit; positioned = p.positioned; millimetres = p.millimetres; inches = p.machine.inches; cycle = p.machine.cycle; turn = p.machine.turn }
 
 -- what the words of a line do
 abbrev pub acted_by : Words → Progress → Line → Result (Progress × List Move) NgcFault

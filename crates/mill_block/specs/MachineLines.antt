@@ -1,5 +1,9 @@
 -- What a line of a program for a machine does: its checks in their order, and its moves.
-use Rattle.std.specs.Prelude.{ℕ, ℤ, pos, ◌+◌, List, [], length, replicate, Option, Some, None, is_some, option_map, Result, Ok, Err, ⊤, Bool, true, false, not, ◌&&◌, ◌||◌, ◌==◌, nat_le, nat_lt, nat_abs, int_le, if◌then◌else◌}
+use Rattle.std.specs.Prelude.{ℕ, ℤ, pos, ◌+◌, List, [], length, map, replicate, Option, Some, None, is_some, option_map, Result, Ok, Err, ⊤, Bool, true, false, not, ◌&&◌, ◌||◌, ◌==◌, nat_le, nat_lt, nat_abs, int_le, if◌then◌else◌}
+use Rattle.std.specs.List.{list_all}
+use Rattle.mill_arc.specs.Chords.{chords_of}
+use Rattle.mill_arc.specs.Arcs.{is_sound}
+use Rattle.mill_arc.specs.declared.chords.Chord.{Chord}
 use Rattle.mill_base.specs.Numbers.{greater}
 use Rattle.mill_base.specs.Units.{greatest_of}
 use Rattle.mill_base.specs.declared.limits.TheConstants.{MAX_MOVES}
@@ -7,7 +11,10 @@ use Rattle.mill_base.specs.declared.motion.Kind.{Kind}
 use Rattle.mill_base.specs.declared.motion.Kind.TheVariants.{Rapid, Feed}
 use Rattle.mill_base.specs.declared.motion.Move.{Move}
 use Rattle.mill_base.specs.declared.points.Pt3.{Pt3}
+use Rattle.mill_base.specs.declared.unit.Unit.{Unit}
 use Rattle.mill_words.specs.declared.word.Num.{Num}
+use Rattle.mill_control.specs.Drilled.{ends_at}
+use Rattle.mill_control.specs.Unrounded.{text_units}
 use Rattle.mill_control.specs.Holes.{begun, hole_end, hole_moves, may_drill, with_numbers}
 use Rattle.mill_control.specs.Lengths.{is_whole, rounded}
 use Rattle.mill_control.specs.Offsets.{is_offset, may_name, named}
@@ -19,9 +26,13 @@ use Rattle.mill_control.specs.declared.series.Cycle.{Cycle}
 use Rattle.mill_control.specs.declared.series.Return.{Return}
 use Rattle.mill_control.specs.declared.series.Return.TheVariants.{Level, Clearance}
 use Rattle.mill_control.specs.declared.series.Series.{Series}
+use Rattle.mill_control.specs.declared.turn.Plane.{Plane}
+use Rattle.mill_control.specs.declared.turn.Plane.TheVariants.{Xy}
+use Rattle.mill_control.specs.declared.turn.Turn.{Turn}
 use Rattle.mill_said.specs.declared.fault.NgcFault.{NgcFault}
 use Rattle.mill_said.specs.declared.fault.NgcFault.TheVariants as fault
 use Rattle.mill_block.specs.declared.machine.Machine.{Machine}
+use Rattle.mill_block.specs.declared.machine_arc.Sweep.{Sweep}
 use Rattle.mill_said.specs.declared.machine_said.MachineSaid.{MachineSaid}
 use Rattle.mill_said.specs.declared.machine_said.Up.{Up}
 use Rattle.mill_said.specs.declared.profile.Mode.{Mode}
@@ -31,10 +42,13 @@ use Rattle.mill_block.specs.declared.progress.Known.TheVariants.{All}
 use Rattle.mill_block.specs.declared.progress.Progress.{Progress}
 use Rattle.mill_said.specs.declared.rules.Control.{Control}
 use Rattle.mill_block.specs.Drives.{driven_or_fault}
-use Rattle.mill_said.specs.MachineSaid.{is_drills, names_axis}
+use Rattle.mill_block.specs.MachineArcs.{chord_end, fed, sweep_of, words_fit}
+use Rattle.mill_said.specs.MachineSaid.{is_drills, names_axis, names_centre}
 use Rattle.mill_block.specs.MachineSettings.{has_lengths, lengths_of, per_of, settled_for}
 use Rattle.mill_block.specs.Motion.{is_rapid, known_of, made_move}
+use Rattle.mill_said.specs.Numbers.{is_nought}
 use Rattle.mill_said.specs.Said.{◌>>=◌}
+use Rattle.mill_block.specs.TextPlaces.{exact_here, exactly_at, text_above, text_or, text_target}
 
 -- what a line does: the progress behind it, and its moves
 abbrev pub Done : Type 0
@@ -64,18 +78,14 @@ gone_to known p kind across to = if across then arrived p to else waits p to
 
 -- ---- up to the machine's place, and across to it
 
-abbrev pub is_nought : Option Num → Bool
-is_nought None = true
-is_nought (Some n) = n.mant == 0
-
 -- no word of a cycle beside it
 abbrev pub has_cycle_word : MachineSaid → Bool
-has_cycle_word s = ((is_drills s.motion || is_some s.r) || is_some s.q) || s.p
+has_cycle_word s = ((is_drills s.motion || is_some s.r) || is_some s.q) || is_some s.p
 
--- G53 by a rapid; G28 and G30 by no increment
+-- G53 by a rapid; G28 and G30 by no increment; none of them beside a cycle's words or an arc's
 abbrev pub up_fits : Progress → MachineSaid → Up → Bool
 up_fits p s u =
-    not (has_cycle_word s) &&
+    not (has_cycle_word s || names_centre s) &&
     (if u.by_machine then is_rapid p.mode else p.machine.incremental && ((is_nought s.x && is_nought s.y) && is_nought s.z))
 
 abbrev pub is_safe : Progress → Bool
@@ -90,9 +100,13 @@ with_place f done = (record done.0 { machine = f done.0.machine }, done.1)
 abbrev pub above_of : Progress → Pt3
 above_of p = record { x = p.here.x; y = p.here.y; z = greater p.here.z p.clear }
 
+-- the tool is at this place by the text's own numbers
+abbrev pub exactly : Pt3 → Progress × List Move → Progress × List Move
+exactly t done = (exactly_at t done.0, done.1)
+
 abbrev pub rise : Progress → Done
 rise p = gone_to (known_of p) p Rapid false (above_of p) >>= λ done.
-    Ok (with_place (λ m. record m { place = raised m.place }) done)
+    Ok (exactly (text_above p (exact_here p)) (with_place (λ m. record m { place = raised m.place }) done))
 
 -- across to the machine's place is no move of the list
 abbrev pub park : Progress → MachineSaid → Done
@@ -117,10 +131,11 @@ abbrev pub place_of : Progress → Place
 place_of p = place_in (known_of p) p.machine.place
 
 abbrev pub naming_of : Progress → MachineSaid → Naming
-naming_of p s = record { rapid = is_rapid p.mode; needs_place = is_some p.machine.cycle; x = is_some s.x; y = is_some s.y; z = option_map (λ n. int_le p.clear (rounded (per_of p) n)) s.z }
+naming_of p s = record { rapid = is_rapid p.mode; needs_place = is_some p.machine.cycle || is_some p.machine.turn; x = is_some s.x; y = is_some s.y; z = option_map (λ n. int_le p.clear (rounded (per_of p) n)) s.z }
 
-abbrev pub names_height : MachineSaid → Bool
-names_height s = is_some s.z || is_some s.r
+-- Z, or a cycle's R
+abbrev pub names_height : Option Cycle → MachineSaid → Bool
+names_height cycle s = is_some s.z || (is_some cycle && is_some s.r)
 
 abbrev pub is_up : Option Bool → Bool
 is_up None = false
@@ -134,7 +149,7 @@ is_before_tool p n = ((n.rapid && not (is_offset p.machine.offsets.length)) && n
 abbrev pub machine_behind : Progress → MachineSaid → Machine → Machine
 machine_behind p s m = record m {
   place = behind (place_of p) (naming_of p s);
-  named = named m.named m.offsets (names_height s) (parks s);
+  named = named m.named m.offsets (names_height p.machine.cycle s) (parks s);
   has_named = m.has_named || not (is_before_tool p (naming_of p s));
 }
 
@@ -209,39 +224,84 @@ hole_for c p s v =
     peck_fits c p s.q >>= λ _.
     Ok (hole_of c p v x y top)
 
+abbrev pub is_level : Plane → Bool
+is_level Xy = true
+is_level plane = false
+
 -- every control makes the same moves of the line's hole
 abbrev pub is_drillable : Progress → MachineSaid → Series → Bool
-is_drillable p s v = may_drill v p.machine.returns (per_of p) p.here (rounded_or p p.here.x s.x) (rounded_or p p.here.y s.y)
+is_drillable p s v = is_level p.machine.plane && may_drill v p.machine.returns (per_of p) p.here (rounded_or p p.here.x s.x) (rounded_or p p.here.y s.y)
 
 unfoldable pub drills_hole : Control → Progress → MachineSaid → Cycle → Done
 drills_hole c p s cycle =
     if not (is_drillable p s (series_for p s cycle)) then Err (fault.Cycle p.line) else
     (hole_for c p s (series_for p s cycle) >>= λ h. drilled p (series_for p s cycle) h)
 
+-- back to where the series began, which is where the tool is, or to R where that is higher; by the text's own numbers
+abbrev pub text_end : Return → ℤ → ℤ → ℤ
+text_end Level top z = greater top z
+text_end Clearance top z = top
+
+abbrev pub text_over_hole : Progress → Pt3 → MachineSaid → Series → Pt3
+text_over_hole p at s v = record { x = text_or (per_of p) at.x s.x; y = text_or (per_of p) at.y s.y; z = text_end (returns_or p.machine.returns) (text_units (per_of p) (number_or v.r)) at.z }
+
+-- ---- an arc
+
+abbrev pub is_coordinate : Unit → ℤ → Bool
+is_coordinate unit x = nat_le (nat_abs x) (greatest_of unit)
+
+abbrev pub is_in_range : Unit → Pt3 → Bool
+is_in_range unit q = is_coordinate unit q.x && (is_coordinate unit q.y && is_coordinate unit q.z)
+
+abbrev pub points_or : Progress → List Pt3 → Result (List Pt3) NgcFault
+points_or p points = if list_all (is_in_range p.unit) points then Ok points else Err (fault.OutOfRange p.line)
+
+abbrev pub chords_or : Progress → Sweep → Option (List Chord) → Result (List Pt3) NgcFault
+chords_or p w None = Err (fault.Arc p.line)
+chords_or p w (Some chords) = points_or p (map (chord_end p.machine.plane w) chords)
+
+-- where the chords of its turn end
+unfoldable pub points_of : Progress → Sweep → Result (List Pt3) NgcFault
+points_of p w = if not (is_sound w.arc) then Err (fault.Arc p.line) else chords_or p w (chords_of w.arc)
+
+-- its moves, unless they are too many
+abbrev pub went_round : Progress → List Pt3 → Done
+went_round p points =
+    if nat_lt MAX_MOVES (p.moves + length points) then Err (fault.TooManyMoves p.line) else
+    Ok (record p { here = ends_at p.here (fed p.here points); positioned = true; moves = p.moves + length points }, fed p.here points)
+
+unfoldable pub turned : Control → Progress → MachineSaid → Turn → Done
+turned c p s turn =
+    if int_le (pos 0) c.arc_room && p.machine.wide_path then Err (fault.PathControl p.line) else
+    (if not (words_fit c p s) then Err (fault.Arc p.line) else
+    (target_for c p s >>= λ to. points_of p (sweep_of c p s turn) >>= λ points. went_round p points))
+
 -- ---- the checks in their order
 
--- a cycle's line counts as a feed
-abbrev pub kind_for : Option Cycle → Kind → Kind
-kind_for None kind = kind
-kind_for (Some c) kind = Feed
+-- where the line leads by its own numbers
+abbrev pub exact_to : Progress → MachineSaid → Option Cycle → Pt3
+exact_to p s None = text_target p (exact_here p) s
+exact_to p s (Some cycle) = text_over_hole p (exact_here p) s (series_for p s cycle)
 
-abbrev pub acts_by : Control → Progress → MachineSaid → Mode → Option Cycle → Done
-acts_by c p s mode (Some cycle) = driven_or_fault p.rules.needs_spindle Feed p.drive p.line >>= λ _. drills_hole c p s cycle
-acts_by c p s Off None = Err (fault.NoMotion p.line)
-acts_by c p s (On kind) None = driven_or_fault p.rules.needs_spindle kind p.drive p.line >>= λ _. went c p s kind
+-- a cycle's line counts as a feed, and an arc's
+abbrev pub acts_by : Control → Progress → MachineSaid → Mode → Option Cycle → Option Turn → Done
+acts_by c p s mode (Some cycle) turn = driven_or_fault p.rules.needs_spindle Feed p.drive p.line >>= λ _. drills_hole c p s cycle
+acts_by c p s mode None (Some turn) = driven_or_fault p.rules.needs_spindle Feed p.drive p.line >>= λ _. turned c p s turn
+acts_by c p s Off None None = Err (fault.NoMotion p.line)
+acts_by c p s (On kind) None None = driven_or_fault p.rules.needs_spindle kind p.drive p.line >>= λ _. went c p s kind
 
 unfoldable pub names_by : Control → Progress → MachineSaid → Done
 names_by c p s =
     if p.machine.late then Err (fault.LateTool p.line) else
     (if not (allows (place_of p) (naming_of p s)) then Err (fault.Start p.line) else
-    (if not (may_name p.machine.named p.machine.offsets (names_height s) (parks s)) then Err (fault.LateOffset p.line) else
+    (if not (may_name p.machine.named p.machine.offsets (names_height p.machine.cycle s) (parks s)) then Err (fault.LateOffset p.line) else
     (if not (has_lengths p) then Err (fault.NoUnits p.line) else
     (if not p.absolute then Err (fault.NoAbsolute p.line) else
-    (acts_by c p s p.mode p.machine.cycle >>= λ done. Ok (with_place (machine_behind p s) done))))))
+    (acts_by c p s p.mode p.machine.cycle p.machine.turn >>= λ done. Ok (exactly (exact_to p s p.machine.cycle) (with_place (machine_behind p s) done)))))))
 
 -- without an axis word there is no way up, and no word of a cycle but a rest's or a tolerance's P
 abbrev pub is_idle : MachineSaid → Bool
-is_idle s = not ((is_drills s.motion || is_some s.r) || (is_some s.q || (s.p && not (s.rests || s.tolerates))))
+is_idle s = not ((is_drills s.motion || is_some s.r) || (is_some s.q || (is_some s.p && not (s.rests || s.tolerates))))
 
 abbrev pub idles : Progress → MachineSaid → Done
 idles p s = if is_idle s then Ok (p, []) else Err (fault.Cycle p.line)
@@ -254,8 +314,12 @@ abbrev pub axis_done : Control → Progress → MachineSaid → Option Up → Do
 axis_done c p s None = names_by c p s
 axis_done c p s (Some u) = gone_up p s u
 
+-- the line names an axis, or is an arc's
+abbrev pub acts : Progress → MachineSaid → Bool
+acts p s = names_axis s || (is_some p.machine.turn && (names_centre s || is_some s.r))
+
 abbrev pub machine_done : Control → Progress → MachineSaid → Done
-machine_done c p s = if names_axis s then axis_done c p s s.up else stands p s s.up
+machine_done c p s = if acts p s then axis_done c p s s.up else stands p s s.up
 
 -- M0 and M1 stop the spindle behind their line
 abbrev pub with_stop : Bool → Progress × List Move → Progress × List Move

@@ -1,5 +1,5 @@
 -- What the settings of a line for a machine change: its mode, its numbers, its offsets, and what is known of the tool's place.
-use Rattle.std.specs.Prelude.{ℕ, Option, Some, None, unwrap_or, Bool, true, false, not, ◌&&◌, ◌||◌, ◌==◌, if◌then◌else◌}
+use Rattle.std.specs.Prelude.{ℕ, ℤ, pos, Option, Some, None, unwrap_or, Bool, true, false, not, ◌&&◌, ◌||◌, ◌==◌, if◌then◌else◌}
 use Rattle.mill_words.specs.declared.word.Num.{Num}
 use Rattle.mill_control.specs.Lengths.{exact, per}
 use Rattle.mill_control.specs.Offsets.{first_offsets, none_named, same_length}
@@ -13,19 +13,29 @@ use Rattle.mill_control.specs.declared.place.Place.{Place}
 use Rattle.mill_control.specs.declared.series.Cycle.{Cycle}
 use Rattle.mill_control.specs.declared.series.Return.{Return}
 use Rattle.mill_control.specs.declared.series.Series.{Series}
+use Rattle.mill_control.specs.declared.turn.Plane.{Plane}
+use Rattle.mill_control.specs.declared.turn.Plane.TheVariants.{Xy}
+use Rattle.mill_control.specs.declared.turn.Turn.{Turn}
+use Rattle.mill_base.specs.declared.unit.Unit.{Unit}
+use Rattle.mill_block.specs.declared.machine.Finer.{Finer}
 use Rattle.mill_block.specs.declared.machine.Machine.{Machine}
 use Rattle.mill_said.specs.declared.machine_said.MachineSaid.{MachineSaid}
 use Rattle.mill_said.specs.declared.machine_said.Motion.{Motion}
-use Rattle.mill_said.specs.declared.machine_said.Motion.TheVariants.{Goes, Drills}
+use Rattle.mill_said.specs.declared.machine_said.Motion.TheVariants.{Goes, Drills, Turns}
 use Rattle.mill_said.specs.declared.profile.Mode.{Mode}
 use Rattle.mill_said.specs.declared.profile.Mode.TheVariants.{Off, On}
 use Rattle.mill_block.specs.declared.progress.Progress.{Progress}
 use Rattle.mill_said.specs.declared.rules.Control.{Control}
 use Rattle.mill_block.specs.Drives.{driven_by}
+use Rattle.mill_said.specs.MachineTakes.{is_at_most}
+
+-- a place of whole units
+abbrev pub nothing_finer : Finer
+nothing_finer = record { x = pos 0; y = pos 0; z = pos 0 }
 
 -- before the first line
 abbrev pub machine_begun : Machine
-machine_begun = record { inches = false; incremental = false; cycle = None; series = None; returns = None; place = nowhere; offsets = first_offsets; named = none_named; has_named = false; late = false; waiting = 0 }
+machine_begun = record { inches = false; incremental = false; cycle = None; turn = None; plane = Xy; wide_path = false; series = None; returns = None; place = nowhere; finer = nothing_finer; offsets = first_offsets; named = none_named; has_named = false; late = false; waiting = 0 }
 
 -- ---- the mode
 
@@ -33,13 +43,27 @@ machine_begun = record { inches = false; incremental = false; cycle = None; seri
 abbrev pub mode_behind : Option Motion → Bool → Mode → Mode
 mode_behind (Some (Goes kind)) still mode = On kind
 mode_behind (Some (Drills c)) still mode = Off
+mode_behind (Some (Turns t)) still mode = Off
 mode_behind None still mode = if still then Off else mode
 
 -- the drilling cycle in force
 abbrev pub cycle_behind : Option Motion → Bool → Option Cycle → Option Cycle
 cycle_behind (Some (Goes kind)) still cycle = None
 cycle_behind (Some (Drills c)) still cycle = Some c
+cycle_behind (Some (Turns t)) still cycle = None
 cycle_behind None still cycle = if still then None else cycle
+
+-- the way round of the arcs in force
+abbrev pub turn_behind : Option Motion → Bool → Option Turn → Option Turn
+turn_behind (Some (Goes kind)) still turn = None
+turn_behind (Some (Drills c)) still turn = None
+turn_behind (Some (Turns t)) still turn = Some t
+turn_behind None still turn = if still then None else turn
+
+-- and their plane
+abbrev pub plane_behind : Option Plane → Plane → Plane
+plane_behind None before = before
+plane_behind (Some new) before = new
 
 -- a series lasts while there is no other motion mode
 abbrev pub series_behind : Option Cycle → Option Series → Option Series
@@ -105,13 +129,34 @@ with_offsets old new p = with_zero old.zero new.zero (with_length old.length new
 abbrev pub place_behind : Control → MachineSaid → Machine → Place
 place_behind c s m = with_offsets m.offsets (offsets_behind c.one_length s m.offsets) (with_tool c.change_raises s m.place)
 
+-- ---- the path's tolerance
+
+-- the unit of lengths, and inches where there is none yet
+abbrev pub lengths_in_force : Bool → LengthUnit
+lengths_in_force millimetres = if millimetres then Millimetres else Inches
+
+-- a tolerance of more units than this
+abbrev pub is_wide : ℕ → ℤ → Option Num → Bool
+is_wide per units None = false
+is_wide per units (Some n) = not (is_at_most per units n)
+
+-- the path may be left by more than arcs have room for: G64 says how far, and G61 ends it
+abbrev pub wide_behind : ℤ → ℕ → MachineSaid → Bool → Bool
+wide_behind room per s before = if s.tolerates then is_wide per room s.p else (if s.exact then false else before)
+
+abbrev pub path_per : Unit → MachineSaid → Bool → ℕ
+path_per unit s millimetres = per (lengths_in_force (millimetres_behind s.lengths millimetres)) unit
+
 -- ---- all of it
 
-abbrev pub machine_settled : Control → MachineSaid → Machine → Machine
-machine_settled c s m = record m {
+abbrev pub machine_settled : Control → ℕ → MachineSaid → Machine → Machine
+machine_settled c path s m = record m {
   inches = inches_behind s.lengths m.inches;
   incremental = incremental_behind s.absolute m.incremental;
   cycle = cycle_behind s.motion s.still m.cycle;
+  turn = turn_behind s.motion s.still m.turn;
+  plane = plane_behind s.plane m.plane;
+  wide_path = wide_behind c.arc_room path s m.wide_path;
   series = series_behind (cycle_behind s.motion s.still m.cycle) m.series;
   returns = returns_behind s.returns m.returns;
   place = place_behind c s m;
@@ -127,7 +172,7 @@ settled_for c p s = record p {
   absolute = unwrap_or s.absolute p.absolute;
   ended = s.ends;
   drive = if p.rules.needs_spindle then driven_by p.drive s.changes s.spindle s.speed s.rate else p.drive;
-  machine = machine_settled c s p.machine;
+  machine = machine_settled c (path_per p.unit s p.millimetres) s p.machine;
 }
 
 -- the unit of lengths in force: millimetres until there is one

@@ -1,6 +1,6 @@
 -- What a machine does on a line wherever its tip really is, and which of it the list of moves doesn't have. Places are in parts of 10^18 of a unit.
 use Rattle.std.specs.Prelude.{◌≡◌, ℕ, ◌^◌, ℤ, pos, ◌+ℤ◌, ◌*ℤ◌, ◌≤ℤ◌, ◌⊎◌, ⊤, Bool, true, false, ◌&&◌, nat_lt, List, [], ◌∷◌, All, Contains, length, Option, Some, None, is_some, Result, Ok, Err}
-use Rattle.mill_base.specs.Rounded.{IsRounded, twice_off}
+use Rattle.mill_base.specs.Rounded.{twice_off}
 use Rattle.mill_base.specs.declared.motion.Kind.TheVariants.{Rapid}
 use Rattle.mill_base.specs.declared.motion.Move.{Move}
 use Rattle.mill_base.specs.declared.points.Pt3.{Pt3}
@@ -9,12 +9,15 @@ use Rattle.mill_words.specs.Words.{Line, is_blank as is_blank_line}
 use Rattle.mill_words.specs.declared.word.WordFault.{WordFault}
 use Rattle.mill_control.specs.declared.place.Height.{Height}
 use Rattle.mill_control.specs.declared.place.Height.TheVariants.{Unknown, High, Known}
+use Rattle.mill_control.specs.Unrounded.{parts}
 use Rattle.mill_control.specs.declared.series.Cycle.{Cycle}
+use Rattle.mill_control.specs.declared.turn.Turn.{Turn}
 use Rattle.mill_block.specs.Lines.{after_line, has_frame, is_percent, line_begun, settled_before, with_line}
-use Rattle.mill_block.specs.MachineLines.{hole_for, parks, place_of, series_for}
-use Rattle.mill_said.specs.MachineSaid.{names_axis, told_line}
+use Rattle.mill_block.specs.MachineLines.{acts, hole_for, parks, place_of, series_for}
+use Rattle.mill_said.specs.MachineSaid.{told_line}
 use Rattle.mill_block.specs.MachineSettings.{is_of_tool, settled_for}
-use Rattle.mill_block.specs.TextPaths.{Way, parts, text_drilled, text_line, text_target}
+use Rattle.mill_block.specs.TextPaths.{FitsText, Way, text_drilled, text_line, text_turned}
+use Rattle.mill_block.specs.TextPlaces.{exact_here, text_target}
 use Rattle.mill_said.specs.declared.fault.NgcFault.{NgcFault}
 use Rattle.mill_said.specs.declared.machine_said.MachineSaid.{MachineSaid}
 use Rattle.mill_said.specs.declared.machine_said.Up.{Up}
@@ -72,15 +75,16 @@ abbrev pub GoesAway : Bool → Bool → ℤ → Pt3 → Pt3 → Type 0
 GoesAway true up clear r q = GoesAcross up clear r q
 GoesAway false up clear r q = GoesUp clear r q
 
--- to the line's own numbers, from where the tip is; a hole is the list's
-abbrev pub real_acts : Control → Progress → Pt3 → MachineSaid → Mode → Option Cycle → Way
-real_acts c p r s mode (Some cycle) = text_drilled p r s (hole_for c p s (series_for p s cycle))
-real_acts c p r s Off None = (r, [])
-real_acts c p r s (On kind) None = (text_target p r s, record { kind = kind; from = r; to = text_target p r s } ∷ [])
+-- to the line's own numbers, from where the tip is; a hole is the list's, and so are an arc's chords
+abbrev pub real_acts : Control → Progress → Pt3 → MachineSaid → Mode → Option Cycle → Option Turn → Way
+real_acts c p r s mode (Some cycle) turn = text_drilled p r s (hole_for c p s (series_for p s cycle))
+real_acts c p r s mode None (Some turn) = text_turned c p r s turn
+real_acts c p r s Off None None = (r, [])
+real_acts c p r s (On kind) None None = (text_target p r s, record { kind = kind; from = r; to = text_target p r s } ∷ [])
 
--- the machine goes so from r on a line that names an axis, behind its settings
+-- the machine goes so from r on a line that names an axis or is an arc's, behind its settings
 abbrev pub AxisGoes : Control → Progress → MachineSaid → Option Up → Pt3 → Way → Type 0
-AxisGoes c p s None r way = way ≡ real_acts c p r s p.mode p.machine.cycle
+AxisGoes c p s None r way = way ≡ real_acts c p r s p.mode p.machine.cycle p.machine.turn
 AxisGoes c p s (Some u) r way = (way.1 ≡ record { kind = Rapid; from = r; to = way.0 } ∷ []) × GoesAway (parks s) (is_some s.z) p.clear r way.0
 
 abbrev pub SaidGoes : Bool → Control → Progress → MachineSaid → Pt3 → Way → Type 0
@@ -91,7 +95,7 @@ SaidGoes false c p s r way = way ≡ (r, [])
 pub record TellsWay (c : Control) (p : Progress) (s : MachineSaid) (r : Pt3) (way : Way) : Type 0 where
   pub left : Pt3
   pub leaves : LeavesTip (c.change_raises && s.changes) (is_of_tool s) p.machine.place.height c.rounds p.clear r left
-  pub goes : SaidGoes (names_axis s) c (settled_for c p s) s left way
+  pub goes : SaidGoes (acts (settled_for c p s) s) c (settled_for c p s) s left way
 
 abbrev pub ToldGoes : Control → Progress → Pt3 → Way → Result MachineSaid NgcFault → Type 0
 ToldGoes c p r way (Ok s) = TellsWay c p s r way
@@ -146,5 +150,5 @@ IsForeseen rounds clear ways w = Contains ways w ⊎ (IsOverClear rounds clear w
 -- so are all ways of a line that is taken, and its tip may be where they end
 abbrev pub LineIsForeseen : Type 0
 LineIsForeseen = (c : Control) (p : Progress) (at r : Pt3) (line : List ℕ) (done : Progress × List Move) (way : Way) → p.rules.words ≡ Machine c
-    → IsRounded c.rounds (10 ^ 18) at p.here → MayBeAt c p at r → MayGo c p r line way → after_line p line ≡ Ok done
+    → FitsText c p → at ≡ exact_here p → MayBeAt c p at r → MayGo c p r line way → after_line p line ≡ Ok done
     → MayBeAt c done.0 (text_line c p at line).0 way.0 × All (IsForeseen c.rounds p.clear (text_line c p at line).1) way.1

@@ -1,16 +1,23 @@
 -- The path that a program's own numbers give, before they are rounded to units. Its points are in parts of 10^18 of a unit, in which every number of a text is whole.
-use Rattle.std.specs.Prelude.{◌≡◌, ℕ, zero, suc, ℤ, pos, ◌+◌, ◌*◌, ◌^◌, ◌+ℤ◌, ◌-ℤ◌, ◌*ℤ◌, int_lt, Bool, true, false, if◌then◌else◌, List, [], ◌∷◌, ◌++◌, replicate, length, nat_lt, Option, Some, None, IfSome, Result, Ok, Err}
+use Rattle.std.specs.Prelude.{◌≡◌, ℕ, zero, suc, ℤ, pos, ◌+◌, ◌*◌, ◌^◌, ◌+ℤ◌, ◌-ℤ◌, ◌*ℤ◌, int_lt, nat_abs, ◌≤◌, map, Bool, true, false, if◌then◌else◌, List, [], ◌∷◌, ◌++◌, replicate, length, nat_lt, Option, Some, None, IfSome, Result, Ok, Err}
 use Rattle.mill_base.specs.Numbers.{greater, lesser}
-use Rattle.mill_base.specs.Rounded.{AreRounded, IsRounded}
+use Rattle.mill_base.specs.Rounded.{AreRounded, twice_off}
 use Rattle.mill_base.specs.declared.motion.Kind.{Kind}
 use Rattle.mill_base.specs.declared.motion.Kind.TheVariants.{Rapid, Feed}
 use Rattle.mill_base.specs.declared.motion.Move.{Move}
 use Rattle.mill_base.specs.declared.points.Pt3.{Pt3}
+use Rattle.mill_base.specs.declared.unit.Unit.{Unit}
 use Rattle.mill_words.specs.Lines.{line_of}
 use Rattle.mill_words.specs.Words.{Line, is_blank as is_blank_line}
 use Rattle.mill_words.specs.declared.word.Num.{Num}
 use Rattle.mill_words.specs.declared.word.WordFault.{WordFault}
 use Rattle.mill_control.specs.Holes.{Stop, at_height, bite_of, count_bites, per_of as per_of_hole, sunk, top_of}
+use Rattle.mill_arc.specs.Chords.{chords_of}
+use Rattle.mill_arc.specs.Places.{height_at, nearest}
+use Rattle.mill_arc.specs.Vectors.{plus, times}
+use Rattle.mill_arc.specs.declared.vectors.Vector.{Vector}
+use Rattle.mill_arc.specs.declared.chords.Chord.{Chord}
+use Rattle.mill_control.specs.Unrounded.{nano_parts, parts, text_units}
 use Rattle.mill_control.specs.Lengths.{exact}
 use Rattle.mill_control.specs.declared.hole.Hole.{Hole}
 use Rattle.mill_control.specs.declared.series.Cycle.{Cycle}
@@ -18,11 +25,17 @@ use Rattle.mill_control.specs.declared.series.Cycle.TheVariants.{Peck}
 use Rattle.mill_control.specs.declared.series.Return.{Return}
 use Rattle.mill_control.specs.declared.series.Return.TheVariants.{Level, Clearance}
 use Rattle.mill_control.specs.declared.series.Series.{Series}
-use Rattle.mill_block.specs.MachineLines.{hole_for, is_taken, machine_done, parks, returns_or, series_for}
+use Rattle.mill_control.specs.declared.turn.Plane.{Plane}
+use Rattle.mill_control.specs.declared.turn.Turn.{Turn}
+use Rattle.mill_block.specs.MachineLines.{acts, hole_for, is_taken, machine_done, parks, returns_or, series_for, text_end}
 use Rattle.mill_block.specs.Lines.{after_line, has_frame, is_percent, line_begun, settled_before, with_line}
-use Rattle.mill_said.specs.MachineSaid.{names_axis, told_line}
+use Rattle.mill_said.specs.MachineSaid.{told_line}
 use Rattle.mill_block.specs.MachineSettings.{has_lengths, per_of, settled_for}
+use Rattle.mill_block.specs.MachineArcs.{fed, out_of, sweep_of}
 use Rattle.mill_block.specs.Motion.{known_of}
+use Rattle.mill_block.specs.TextPlaces.{exact_here, text_above, text_or, text_target}
+use Rattle.mill_block.specs.declared.machine.Finer.{Finer}
+use Rattle.mill_block.specs.declared.machine_arc.Sweep.{Sweep}
 use Rattle.mill_said.specs.declared.fault.NgcFault.{NgcFault}
 use Rattle.mill_said.specs.declared.machine_said.MachineSaid.{MachineSaid}
 use Rattle.mill_said.specs.declared.machine_said.Up.{Up}
@@ -36,24 +49,7 @@ use Rattle.mill_said.specs.declared.rules.Words.TheVariants.{Machine}
 use Rattle.mill_block.specs.Kept.{FitsProgress}
 use Rattle.mill_said.specs.Bounds.{FitsTold}
 
--- so many parts has a unit
-abbrev pub parts : ℤ
-parts = pos (10 ^ 18)
-
--- ---- numbers and places
-
--- a number of lengths, in parts of a unit
-abbrev pub text_units : ℕ → Num → ℤ
-text_units per n = exact n *ℤ pos per
-
--- a coordinate of the way's end: the line's own number, or that of the place before
-abbrev pub text_or : ℕ → ℤ → Option Num → ℤ
-text_or per before None = before
-text_or per before (Some n) = text_units per n
-
--- where the line's own numbers lead
-abbrev pub text_target : Progress → Pt3 → MachineSaid → Pt3
-text_target p at s = record { x = text_or (per_of p) at.x s.x; y = text_or (per_of p) at.y s.y; z = text_or (per_of p) at.z s.z }
+-- ---- a straight way
 
 -- a place behind a line, and the ways to it
 abbrev pub Way : Type 0
@@ -107,33 +103,42 @@ text_hole h at x y end = (
   text_risen h at ++ record { kind = Rapid; from = at_height at (text_crossing h at); to = text_over h at x y } ∷ sunk (text_over h at x y) (text_stops h end),
 )
 
--- back to where the series began, which is where the tool is, or to R where that is higher
-abbrev pub text_end : Return → ℤ → ℤ → ℤ
-text_end Level top z = greater top z
-text_end Clearance top z = top
+-- ---- an arc
+
+-- the end of a chord: the plane's coordinates are whole nanometres, and the height is that of the chord's part of the turn, to the nearest part of 10^18 of a unit
+abbrev pub text_height : Unit → Sweep → Chord → ℤ
+text_height unit w chord = nearest (pos (nano_parts unit) *ℤ height_at w.from w.to chord.part chord.depth) (2 ^ chord.depth)
+
+abbrev pub text_chord_end : Unit → Plane → Sweep → Chord → Pt3
+text_chord_end unit plane w chord = out_of plane (times (pos (nano_parts unit)) (plus w.centre chord.node)) (text_height unit w chord)
+
+abbrev pub text_round : Progress → Pt3 → Sweep → Option (List Chord) → List Move
+text_round p at w None = []
+text_round p at w (Some chords) = fed at (map (text_chord_end p.unit p.machine.plane w) chords)
+
+-- the chords of an arc, whose middles lie on it to the nanometre
+abbrev pub text_turned : Control → Progress → Pt3 → MachineSaid → Turn → Way
+text_turned c p at s turn = (text_target p at s, text_round p at (sweep_of c p s turn) (chords_of (sweep_of c p s turn).arc))
 
 -- ---- a line
-
--- straight up to the machine's place: to the safe height, where that is higher
-abbrev pub text_above : Progress → Pt3 → Pt3
-text_above p at = record { x = at.x; y = at.y; z = greater at.z (parts *ℤ p.clear) }
 
 abbrev pub text_drilled : Progress → Pt3 → MachineSaid → Result Hole NgcFault → Way
 text_drilled p at s (Err fault) = (at, [])
 text_drilled p at s (Ok h) = text_hole h at (text_or (per_of p) at.x s.x) (text_or (per_of p) at.y s.y) (text_end (returns_or p.machine.returns) (text_top h) at.z)
 
-abbrev pub text_acts : Control → Progress → Pt3 → MachineSaid → Mode → Option Cycle → Way
-text_acts c p at s mode (Some cycle) = text_drilled p at s (hole_for c p s (series_for p s cycle))
-text_acts c p at s Off None = (at, [])
-text_acts c p at s (On kind) None = text_gone (known_of p) p kind (parks s) at (text_target p at s)
+abbrev pub text_acts : Control → Progress → Pt3 → MachineSaid → Mode → Option Cycle → Option Turn → Way
+text_acts c p at s mode (Some cycle) turn = text_drilled p at s (hole_for c p s (series_for p s cycle))
+text_acts c p at s mode None (Some turn) = text_turned c p at s turn
+text_acts c p at s Off None None = (at, [])
+text_acts c p at s (On kind) None None = text_gone (known_of p) p kind (parks s) at (text_target p at s)
 
 abbrev pub text_named : Control → Progress → Pt3 → MachineSaid → Option Up → Way
-text_named c p at s None = text_acts c p at s p.mode p.machine.cycle
+text_named c p at s None = text_acts c p at s p.mode p.machine.cycle p.machine.turn
 text_named c p at s (Some u) = if parks s then (at, []) else text_gone (known_of p) p Rapid false at (text_above p at)
 
 -- where a line without a fault leads by its own numbers, behind its settings, and its ways: one for each of its moves
 abbrev pub text_done : Control → Progress → Pt3 → MachineSaid → Way
-text_done c p at s = if names_axis s then text_named c p at s s.up else (at, [])
+text_done c p at s = if acts p s then text_named c p at s s.up else (at, [])
 
 -- ---- a line of a text
 
@@ -160,21 +165,31 @@ pub record KeepsPeck (rounds positioned lengths : Bool) (per : ℕ) (s : Series)
   pub measured : lengths ≡ true
   pub q_taken : IfSome s.q (λ n. is_taken rounds per n ≡ true)
 
--- what stays from line to line fits, and so does its peck
+-- so much, in parts of 10^18 of a unit, a number may have beside its units: half of one, or nothing where nothing is rounded
+abbrev pub IsFiner : Bool → ℤ → Type 0
+IsFiner rounds t = 2 * nat_abs t ≤ twice_off rounds (10 ^ 18)
+
+pub record AreFiner (rounds : Bool) (f : Finer) : Type 0 where
+  pub x_finer : IsFiner rounds f.x
+  pub y_finer : IsFiner rounds f.y
+  pub z_finer : IsFiner rounds f.z
+
+-- what stays from line to line fits, and so does its peck, and the text's own place is near
 pub record FitsText (c : Control) (p : Progress) : Type 0 where
   pub fits : FitsProgress p
+  pub finer_fits : AreFiner c.rounds p.machine.finer
   pub peck_fits : IfSome p.machine.series (KeepsPeck c.rounds p.positioned (has_lengths p) (per_of p))
 
--- the list's moves of a line are the ways that its own numbers give, with their ends rounded to units, or exactly these ways where nothing is rounded
+-- the list's moves of a line are the ways that its own numbers give, with their ends rounded to units, or exactly these ways where nothing is rounded; the reader knows where they lead
 pub record IsTextOf (rounds : Bool) (way : Way) (done : Progress × List Move) : Type 0 where
-  pub here : IsRounded rounds (10 ^ 18) way.0 done.0.here
+  pub here : way.0 ≡ exact_here done.0
   pub moves : AreRounded rounds (10 ^ 18) way.1 done.1
 
 abbrev pub LineIsTextOf : Type 0
-LineIsTextOf = (c : Control) (p : Progress) (at : Pt3) (s : MachineSaid) (done : Progress × List Move) → FitsTold s → FitsText c p → IsRounded c.rounds (10 ^ 18) at p.here
+LineIsTextOf = (c : Control) (p : Progress) (at : Pt3) (s : MachineSaid) (done : Progress × List Move) → FitsTold s → FitsText c p → at ≡ exact_here p
     → machine_done c p s ≡ Ok done → IsTextOf c.rounds (text_done c p at s) done
 
 -- so it is of each line of a text, and what stays from line to line fits again
 abbrev pub TextLineIs : Type 0
-TextLineIs = (c : Control) (p : Progress) (at : Pt3) (line : List ℕ) (done : Progress × List Move) → p.rules.words ≡ Machine c → FitsText c p → IsRounded c.rounds (10 ^ 18) at p.here
+TextLineIs = (c : Control) (p : Progress) (at : Pt3) (line : List ℕ) (done : Progress × List Move) → p.rules.words ≡ Machine c → FitsText c p → at ≡ exact_here p
     → after_line p line ≡ Ok done → IsTextOf c.rounds (text_line c p at line) done × FitsText c done.0

@@ -16,6 +16,7 @@
 
 mod line_reader;
 mod machine;
+mod machine_arc;
 mod machine_hole;
 mod machine_line;
 mod machine_settings;

@@ -329,6 +329,7 @@ impl Progress {
             millimetres: self.millimetres,
             inches: self.machine.inches,
             cycle: self.machine.cycle,
+            turn: self.machine.turn,
         }
     }
 

@@ -1,11 +1,19 @@
 //! A hole that a line of a drilling cycle makes.
-ghost use Rattle.std.specs.Prelude.{◌≡◌, ◌≢◌, ◌≤ℤ◌, ◌++◌, pos, true, OnOk, OnErr, IfOk, IfErr, Ok};
+ghost use Rattle.std.specs.Prelude.{◌≡◌, ◌≢◌, ◌≤ℤ◌, ◌*◌, ◌^◌, ◌+ℤ◌, ◌*ℤ◌, ◌++◌, pos, true};
+ghost use Rattle.std.specs.Prelude.{OnOk, OnErr, IfOk, IfErr, Ok};
 ghost use Rattle.std.specs.Prelude.{Err, IfSome};
 ghost use Rattle.mill_base.specs.Ranges.{IsInUnitRange};
 ghost use Rattle.mill_words.specs.Words.{FitsNum};
 ghost use Rattle.mill_control.specs.Drilled.{IsHole};
 ghost use Rattle.mill_control.specs.Drilled.{FitsSeries};
+ghost use Rattle.mill_control.specs.Unrounded.{parts, text_of};
+ghost use Rattle.mill_control.specs.declared.hole.Hole.{Hole};
+ghost use Rattle.mill_base.specs.Numbers.{Within};
+ghost use Rattle.mill_block.specs.TextPlaces.{exact_here};
+ghost use Rattle.mill_block.specs.MachineLines.{text_end, text_over_hole};
+ghost use Rattle.mill_said.specs.declared.rules.Control.{Control};
 ghost use Rattle.mill_block.specs.MachineLines.{drills_hole, is_drillable};
+ghost use Rattle.mill_block.specs.MachineLines.{is_level as is_level_plane};
 ghost use Rattle.mill_block.specs.MachineLines.{series_for as series_for_line};
 ghost use Rattle.mill_block.specs.MachineLines.{rounded_or as rounded_or_here};
 ghost use Rattle.mill_block.specs.MachineLines.{hole_for as hole_for_line};
@@ -19,7 +27,10 @@ ghost use Rattle.mill_said.specs.Bounds.{FitsTold};
 
 use crate::progress::Progress;
 use mill_base::{MAX_MOVES, Move, Pt3};
-use mill_control::{Cycle, Hole, Return, Series, count_hole, drill, is_whole, rounded};
+use mill_control::{
+    Coordinate, Cycle, Hole, Plane, Return, Series, count_hole, drill, finer, higher, is_whole,
+    rounded,
+};
 use mill_said::{Control, MachineSaid, NgcFault};
 use mill_words::Num;
 
@@ -52,6 +63,29 @@ impl Progress {
         self.drill_in(series, hole, out)
     }
 
+    /// What the height behind the line's hole has beside its units, by the text's own numbers. It
+    /// is so where the height of R is in range: else the line is refused.
+    pub fn finer_over_hole(&self, said: &MachineSaid, cycle: Cycle) -> i64
+        requires said { FitsTold said.now }
+        requires fits { FitsProgress self.now }
+        ensures exact { (c : Control) (h : Hole) →
+            is_drillable self.now said.now (series_for_line self.now said.now cycle) ≡ true →
+            hole_for_line c self.now said.now (series_for_line self.now said.now cycle) ≡ Ok h →
+            ((parts *ℤ h.end) +ℤ result) ≡ (text_over_hole self.now (exact_here self.now) said.now
+            (series_for_line self.now said.now cycle)).z }
+        ensures bound { Within (5 * 10 ^ 17) result }
+    {
+        let top = number_or(self.series_for(said, cycle).r);
+        let Ok(units) = i32::try_from(rounded(top, self.per())) else {
+            return 0;
+        };
+        let over = Coordinate {
+            units,
+            finer: finer(top, self.per()),
+        };
+        end_over(self.machine.returns, over, self.height()).finer
+    }
+
     // The series with the numbers of the line.
     fn series_for(&self, said: &MachineSaid, cycle: Cycle) -> Series
         requires said { FitsTold said.now }
@@ -71,7 +105,8 @@ impl Progress {
     {
         let x = self.rounded_or(self.here.x, said.x);
         let y = self.rounded_or(self.here.y, said.y);
-        series.may_drill(self.machine.returns, self.per(), self.here, x, y)
+        is_level(self.machine.plane)
+            && series.may_drill(self.machine.returns, self.per(), self.here, x, y)
     }
 
     // A number in units, or a coordinate of the present point.
@@ -176,6 +211,13 @@ impl Progress {
     }
 }
 
+// Whether it is the plane across which holes go down.
+fn is_level(plane: Plane) -> bool
+    ensures { result ≡ is_level_plane plane }
+{
+    matches!(plane, Plane::Xy)
+}
+
 // No other number than this is asked for where a hole may be drilled.
 fn number_or(num: Option<Num>) -> Num
     ensures { result ≡ number_or_nought num }
@@ -196,6 +238,20 @@ fn hole_end_z(level: i32, returns: Option<Return>, top: i32) -> i32
 {
     match returns {
         Some(Return::Level) => top.max(level),
+        _ => top,
+    }
+}
+
+// The same by the text's own numbers, where R is at the one height and the tool at the other.
+fn end_over(returns: Option<Return>, top: Coordinate, here: Coordinate) -> Coordinate
+    requires top { Within (5 * 10 ^ 17) top.finer }
+    requires here { Within (5 * 10 ^ 17) here.finer }
+    ensures text { text_of result ≡ text_end (returns_or returns) (text_of top) (text_of here) }
+    ensures units { result.units ≡ hole_z here.units (returns_or returns) top.units }
+    ensures finer { Within (5 * 10 ^ 17) result.finer }
+{
+    match returns {
+        Some(Return::Level) => higher(top, here),
         _ => top,
     }
 }

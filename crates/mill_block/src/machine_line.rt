@@ -1,21 +1,26 @@
 //! What a line of a program for a machine does: its checks in their order, and its moves.
-ghost use Rattle.std.specs.Prelude.{◌≡◌, ◌≢◌, ◌≤ℤ◌, ◌⊎◌, ◌+◌, [], ◌∷◌, ◌++◌, true, nat_lt};
+ghost use Rattle.std.specs.Prelude.{◌≡◌, ◌≢◌, ◌≤ℤ◌, ◌⊎◌, ◌+◌, ◌*◌, ◌^◌, [], ◌∷◌, ◌++◌};
+ghost use Rattle.std.specs.Prelude.{List, true, nat_lt};
 ghost use Rattle.std.specs.Prelude.{replicate};
 ghost use Rattle.std.specs.Prelude.{OnOk, OnErr, IfOk, IfErr, Ok, Err, IfSome};
 ghost use Rattle.mill_base.specs.Numbers.{Within};
 ghost use Rattle.mill_base.specs.Units.{greatest_of};
 ghost use Rattle.mill_base.specs.Ranges.{IsInUnitRange};
 ghost use Rattle.mill_words.specs.Words.{FitsNum};
+ghost use Rattle.mill_base.specs.declared.motion.Move.{Move};
 ghost use Rattle.mill_control.specs.Places.{allows};
+ghost use Rattle.mill_control.specs.Unrounded.{text_of};
 ghost use Rattle.mill_block.specs.MachineLines.{machine_acted, machine_done, with_stop, stands};
 ghost use Rattle.mill_block.specs.MachineLines.{is_idle as is_idle_line, above_of, gone_up, rise};
 ghost use Rattle.mill_block.specs.MachineLines.{park};
 ghost use Rattle.mill_block.specs.MachineLines.{has_cycle_word as has_cycle_word_said};
 ghost use Rattle.mill_block.specs.MachineLines.{up_fits as up_fits_line};
-ghost use Rattle.mill_block.specs.MachineLines.{is_nought as is_nought_number};
 ghost use Rattle.mill_block.specs.MachineLines.{is_safe as is_safe_at, parks as parks_line};
-ghost use Rattle.mill_block.specs.MachineLines.{names_by, acts_by, went, place_of, naming_of};
+ghost use Rattle.mill_block.specs.MachineLines.{names_by, acts_by, exact_to, went, place_of};
+ghost use Rattle.mill_block.specs.MachineLines.{naming_of};
 ghost use Rattle.mill_block.specs.MachineLines.{names_height as names_height_said};
+ghost use Rattle.mill_block.specs.MachineLines.{acts as acts_line};
+ghost use Rattle.mill_block.specs.TextPlaces.{exact_here, text_above};
 ghost use Rattle.mill_block.specs.MachineLines.{is_before_tool as is_before_tool_line};
 ghost use Rattle.mill_block.specs.MachineLines.{units_for as units_for_control, coordinate_for};
 ghost use Rattle.mill_block.specs.MachineLines.{target_for as target_for_control};
@@ -23,16 +28,20 @@ ghost use Rattle.mill_block.specs.MachineLines.{gone_to, arrived, waits, still_a
 ghost use Rattle.mill_said.specs.MachineSaid.{is_drills as is_drills_motion};
 ghost use Rattle.mill_block.specs.Motion.{known_of};
 ghost use Rattle.mill_block.specs.declared.progress.Known.TheVariants.{All};
-ghost use Rattle.mill_block.specs.Kept.{Adds, Keeps, FitsProgress};
+ghost use Rattle.mill_block.specs.Kept.{Adds, Keeps, FitsFiner, FitsProgress};
 ghost use Rattle.mill_said.specs.declared.fault.NgcFault.TheVariants as faults;
 ghost use Rattle.mill_said.specs.Bounds.{FitsTold};
+ghost use Rattle.mill_block.specs.MachineSettings.{per_of};
+ghost use Rattle.mill_block.specs.declared.progress.Progress.{Progress};
 ghost use Rattle.mill_block.specs.inner.Bounds.{Stays};
+ghost use Rattle.mill_block.specs.inner.Finers.{IsExactly, finer_or as finer_or_here};
 
+use crate::machine::Finer;
 use crate::motion::{add, is_rapid};
 use crate::progress::{Known, Progress};
 use mill_base::{Kind, MAX_MOVES, Move, Pt3};
-use mill_control::{Naming, Place, is_whole, rounded};
-use mill_said::{Control, MachineSaid, Mode, Motion, NgcFault, Up};
+use mill_control::{Coordinate, Cycle, Naming, Place, finer, higher, is_whole, rounded};
+use mill_said::{Control, MachineSaid, Mode, Motion, NgcFault, Up, is_nought};
 use mill_words::Num;
 
 impl Progress {
@@ -89,7 +98,7 @@ impl Progress {
         ensures kept { OnErr result (out.new.items ≡ out.old.items) }
         ensures fits { FitsProgress self.new }
     {
-        if !said.names_axis() {
+        if !self.acts(said) {
             return self.stand(said);
         }
         match said.up {
@@ -98,7 +107,15 @@ impl Progress {
         }
     }
 
-    // A line without an axis word changes nothing more, if it may come.
+    // Whether the line names an axis, or is an arc's.
+    fn acts(&self, said: &MachineSaid) -> bool
+        ensures { result ≡ acts_line self.now said.now }
+    {
+        said.names_axis()
+            || (self.machine.turn.is_some() && (said.names_centre() || said.r.is_some()))
+    }
+
+    // Another line changes nothing more, if it may come.
     fn stand(&self, said: &MachineSaid) -> Result<(), NgcFault>
         ensures ok { OnOk result (stands self.now said.now said.now.up ≡ Ok (self.now, [])) }
         ensures fault { IfErr result (λ f. stands self.now said.now said.now.up ≡ Err f) }
@@ -124,7 +141,7 @@ impl Progress {
         ensures fault { IfErr result (λ f. f ≢ faults.WantOfMemory →
             gone_up self.old said.now up ≡ Err f) }
         ensures kept { OnErr result (out.new.items ≡ out.old.items) }
-        ensures stays { Stays self.old self.new }
+        ensures fits { FitsProgress self.new }
     {
         if !self.up_fits(said, up) {
             return Err(not_here(self.line, up));
@@ -149,7 +166,7 @@ impl Progress {
     fn up_fits(&self, said: &MachineSaid, up: Up) -> bool
         ensures { result ≡ up_fits_line self.now said.now up }
     {
-        if has_cycle_word(said) {
+        if has_cycle_word(said) || said.names_centre() {
             return false;
         }
         if up.by_machine {
@@ -184,11 +201,13 @@ impl Progress {
             self.old out.old.items self.new out.new.items) }
         ensures fault { IfErr result (λ f. f ≢ faults.WantOfMemory → rise self.old ≡ Err f) }
         ensures kept { OnErr result (out.new.items ≡ out.old.items) }
-        ensures stays { Stays self.old self.new }
+        ensures fits { FitsProgress self.new }
     {
         let above = self.above();
+        let height = self.exact_above();
         self.go_to(Kind::Rapid, false, above, out)?;
         self.machine.place = self.machine.place.raised();
+        self.machine.finer.z = height.finer;
         Ok(())
     }
 
@@ -204,6 +223,34 @@ impl Progress {
             x: self.here.x,
             y: self.here.y,
             z: self.here.z.max(self.clear),
+        }
+    }
+
+    // Its height by the text's own numbers.
+    fn exact_above(&self) -> Coordinate
+        requires here { IsInUnitRange self.now.unit self.now.here }
+        requires fits { FitsProgress self.now }
+        ensures text { text_of result ≡ (text_above self.now (exact_here self.now)).z }
+        ensures units { result.units ≡ (above_of self.now).z }
+        ensures finer { Within (5 * 10 ^ 17) result.finer }
+    {
+        let clear = Coordinate {
+            units: self.clear,
+            finer: 0,
+        };
+        higher(self.height(), clear)
+    }
+
+    /// The present height by the text's own numbers.
+    pub fn height(&self) -> Coordinate
+        requires fits { FitsProgress self.now }
+        ensures value { result ≡
+            record { units = self.now.here.z; finer = self.now.machine.finer.z } }
+        ensures finer { Within (5 * 10 ^ 17) result.finer }
+    {
+        Coordinate {
+            units: self.here.z,
+            finer: self.machine.finer.z,
         }
     }
 
@@ -234,7 +281,8 @@ impl Progress {
             return Err(NgcFault::Start { line: self.line });
         }
         let named = self.machine.named;
-        if !named.allows(self.machine.offsets, names_height(said), parks(said)) {
+        let height = names_height(self.machine.cycle, said);
+        if !named.allows(self.machine.offsets, height, parks(said)) {
             return Err(NgcFault::LateOffset { line: self.line });
         }
         if !self.has_lengths() {
@@ -244,10 +292,12 @@ impl Progress {
             return Err(NgcFault::NoAbsolute { line: self.line });
         }
         let counts = !self.is_before_tool(naming);
+        let finer = self.finer_behind(said);
         self.act_in_mode(control, said, out)?;
+        self.machine.finer = finer;
         self.machine.place = place.behind(naming);
         let named = self.machine.named;
-        self.machine.named = named.behind(self.machine.offsets, names_height(said), parks(said));
+        self.machine.named = named.behind(self.machine.offsets, height, parks(said));
         self.machine.has_named = self.machine.has_named || counts;
         Ok(())
     }
@@ -272,7 +322,7 @@ impl Progress {
     {
         Naming {
             rapid: is_rapid(self.mode),
-            needs_place: self.machine.cycle.is_some(),
+            needs_place: self.machine.cycle.is_some() || self.machine.turn.is_some(),
             x: said.x.is_some(),
             y: said.y.is_some(),
             z: match said.z {
@@ -305,20 +355,26 @@ impl Progress {
         requires fits { FitsProgress self.old }
         requires allowed { allows (place_of self.old) (naming_of self.old said.now) ≡ true }
         ensures ok { OnOk result (Adds
-            (acts_by control self.old said.now self.old.mode self.old.machine.cycle)
+            (acts_by control self.old said.now self.old.mode self.old.machine.cycle
+            self.old.machine.turn)
             self.old out.old.items self.new out.new.items) }
         ensures fault { IfErr result (λ f. f ≢ faults.WantOfMemory →
-            acts_by control self.old said.now self.old.mode self.old.machine.cycle ≡ Err f) }
+            acts_by control self.old said.now self.old.mode self.old.machine.cycle
+            self.old.machine.turn ≡ Err f) }
         ensures kept { OnErr result (out.new.items ≡ out.old.items) }
         ensures fits { FitsProgress self.new }
     {
-        match (self.machine.cycle, self.mode) {
-            (Some(cycle), _) => {
+        match (self.machine.cycle, self.machine.turn, self.mode) {
+            (Some(cycle), _, _) => {
                 self.check_drive(Kind::Feed)?;
                 self.drill_hole(control, said, cycle, out)
             }
-            (None, Mode::Off) => Err(NgcFault::NoMotion { line: self.line }),
-            (None, Mode::On(kind)) => {
+            (None, Some(turn), _) => {
+                self.check_drive(Kind::Feed)?;
+                self.go_round(control, said, turn, out)
+            }
+            (None, None, Mode::Off) => Err(NgcFault::NoMotion { line: self.line }),
+            (None, None, Mode::On(kind)) => {
                 self.check_drive(kind)?;
                 self.go_straight(control, said, kind, out)
             }
@@ -347,9 +403,43 @@ impl Progress {
         self.go_to(kind, parks(said), to, out)
     }
 
-    // Where the line's way ends.
+    // What the place behind the line has beside its units, by the text's own numbers.
+    fn finer_behind(&self, said: &MachineSaid) -> Finer
+        requires said { FitsTold said.now }
+        requires here { IsInUnitRange self.now.unit self.now.here }
+        requires fits { FitsProgress self.now }
+        ensures exact { (c : Control) (done : Progress × List Move) →
+            acts_by c self.now said.now self.now.mode self.now.machine.cycle self.now.machine.turn
+            ≡ Ok done →
+            IsExactly result done.0.here (exact_to self.now said.now self.now.machine.cycle) }
+        ensures fits { FitsFiner result }
+    {
+        Finer {
+            x: self.finer_or(self.machine.finer.x, said.x),
+            y: self.finer_or(self.machine.finer.y, said.y),
+            z: match self.machine.cycle {
+                Some(cycle) => self.finer_over_hole(said, cycle),
+                None => self.finer_or(self.machine.finer.z, said.z),
+            },
+        }
+    }
+
+    /// The same of a coordinate: of the number of its axis, or of the present point.
+    pub fn finer_or(&self, here: i64, num: Option<Num>) -> i64
+        requires num { IfSome num (FitsNum 18) }
+        requires here { Within (5 * 10 ^ 17) here }
+        ensures value { result ≡ finer_or_here (per_of self.now) here num }
+        ensures bound { Within (5 * 10 ^ 17) result }
+    {
+        match num {
+            Some(num) => finer(num, self.per()),
+            None => here,
+        }
+    }
+
+    /// Where the line's way ends.
     #[tactic(auto, unfolding(crate::specs::MachineLines::target_for))]
-    fn target_for(&self, control: Control, said: &MachineSaid) -> Result<Pt3, NgcFault>
+    pub fn target_for(&self, control: Control, said: &MachineSaid) -> Result<Pt3, NgcFault>
         requires said { FitsTold said.now }
         requires here { IsInUnitRange self.now.unit self.now.here }
         ensures value { result ≡ target_for_control control self.now said.now }
@@ -518,29 +608,21 @@ fn is_idle(said: &MachineSaid) -> bool
     ensures { result ≡ is_idle_line said.now }
 {
     let numbers = said.r.is_some() || said.q.is_some();
-    !(is_drills(said.motion) || numbers || (said.p && !(said.rests || said.tolerates)))
+    let rests = said.rests || said.tolerates;
+    !(is_drills(said.motion) || numbers || (said.p.is_some() && !rests))
 }
 
 // Whether the line has a word of a cycle.
 fn has_cycle_word(said: &MachineSaid) -> bool
     ensures { result ≡ has_cycle_word_said said.now }
 {
-    is_drills(said.motion) || said.r.is_some() || said.q.is_some() || said.p
+    is_drills(said.motion) || said.r.is_some() || said.q.is_some() || said.p.is_some()
 }
 
 fn is_drills(motion: Option<Motion>) -> bool
     ensures { result ≡ is_drills_motion motion }
 {
     matches!(motion, Some(Motion::Drills(_)))
-}
-
-fn is_nought(num: Option<Num>) -> bool
-    ensures { result ≡ is_nought_number num }
-{
-    match num {
-        Some(num) => num.mant == 0,
-        None => true,
-    }
 }
 
 // Whether the line names x or y.
@@ -550,8 +632,9 @@ fn parks(said: &MachineSaid) -> bool
     said.x.is_some() || said.y.is_some()
 }
 
-fn names_height(said: &MachineSaid) -> bool
-    ensures { result ≡ names_height_said said.now }
+// Whether it names a height: Z, or a cycle's R.
+fn names_height(cycle: Option<Cycle>, said: &MachineSaid) -> bool
+    ensures { result ≡ names_height_said cycle said.now }
 {
-    said.z.is_some() || said.r.is_some()
+    said.z.is_some() || (cycle.is_some() && said.r.is_some())
 }

@@ -6,6 +6,9 @@ ghost use Rattle.mill_control.specs.Drilled.{FitsSeries};
 ghost use Rattle.mill_block.specs.Drives.{driven_by};
 ghost use Rattle.mill_block.specs.MachineSettings.{mode_behind as mode_behind_line};
 ghost use Rattle.mill_block.specs.MachineSettings.{cycle_behind as cycle_behind_line};
+ghost use Rattle.mill_block.specs.MachineSettings.{turn_behind as turn_behind_line};
+ghost use Rattle.mill_block.specs.MachineSettings.{path_per as path_per_line};
+ghost use Rattle.mill_block.specs.MachineSettings.{wide_behind as wide_behind_line};
 ghost use Rattle.mill_block.specs.MachineSettings.{series_behind as series_behind_line};
 ghost use Rattle.mill_block.specs.MachineSettings.{returns_behind as returns_behind_line};
 ghost use Rattle.mill_block.specs.MachineSettings.{millimetres_behind as millimetres_behind_line};
@@ -25,8 +28,9 @@ ghost use Rattle.mill_block.specs.inner.Bounds.{Stays};
 
 use crate::machine::Machine;
 use crate::progress::{Drive, Progress};
-use mill_control::{Cycle, LengthUnit, Offsets, Place, Return, Series, ToolLength, exact};
-use mill_said::{Control, MachineSaid, Mode, Motion};
+use mill_base::Unit;
+use mill_control::{Cycle, LengthUnit, Offsets, Place, Return, Series, ToolLength, Turn, exact};
+use mill_said::{Control, MachineSaid, Mode, Motion, is_at_most};
 use mill_words::Num;
 
 impl Progress {
@@ -38,6 +42,7 @@ impl Progress {
         ensures value { self.new ≡ settled_for control self.old said.now }
         ensures fits { FitsProgress self.new }
     {
+        let path = path_per(self.unit, said, self.millimetres);
         self.mode = mode_behind(said.motion, said.still, self.mode);
         self.millimetres = millimetres_behind(said.lengths, self.millimetres);
         self.absolute = said.absolute.unwrap_or(self.absolute);
@@ -45,7 +50,7 @@ impl Progress {
         if self.rules.needs_spindle {
             self.drive = self.drive.behind_machine(said);
         }
-        self.machine = self.machine.settled(control, said);
+        self.machine = self.machine.settled(control, path, said);
     }
 
     /// The unit of lengths in force: millimetres until there is one.
@@ -91,10 +96,11 @@ impl Drive {
 
 impl Machine {
     // Behind a line that says this.
-    fn settled(self, control: Control, said: &MachineSaid) -> Self
+    fn settled(self, control: Control, path: u64, said: &MachineSaid) -> Self
+        requires path { path ≤ 25400 }
         requires said { FitsTold said.now }
         requires series { IfSome self.series FitsSeries }
-        ensures value { result ≡ machine_settled control said.now self }
+        ensures value { result ≡ machine_settled control path said.now self }
         ensures fits { IfSome result.series FitsSeries }
     {
         let cycle = cycle_behind(said.motion, said.still, self.cycle);
@@ -102,6 +108,9 @@ impl Machine {
             inches: inches_behind(said.lengths, self.inches),
             incremental: incremental_behind(said.absolute, self.incremental),
             cycle,
+            turn: turn_behind(said.motion, said.still, self.turn),
+            plane: said.plane.unwrap_or(self.plane),
+            wide_path: wide_behind(control.arc_room, path, said, self.wide_path),
             series: series_behind(cycle, self.series),
             returns: returns_behind(said.returns, self.returns),
             place: self.place_behind(control, said),
@@ -128,7 +137,7 @@ fn mode_behind(motion: Option<Motion>, still: bool, mode: Mode) -> Mode
 {
     match motion {
         Some(Motion::Goes(kind)) => Mode::On(kind),
-        Some(Motion::Drills(_)) => Mode::Off,
+        Some(Motion::Drills(_) | Motion::Turns(_)) => Mode::Off,
         None if still => Mode::Off,
         None => mode,
     }
@@ -139,11 +148,50 @@ fn cycle_behind(motion: Option<Motion>, still: bool, cycle: Option<Cycle>) -> Op
     ensures { result ≡ cycle_behind_line motion still cycle }
 {
     match motion {
-        Some(Motion::Goes(_)) => None,
+        Some(Motion::Goes(_) | Motion::Turns(_)) => None,
         Some(Motion::Drills(new)) => Some(new),
         None if still => None,
         None => cycle,
     }
+}
+
+// The way round of the arcs in force.
+fn turn_behind(motion: Option<Motion>, still: bool, turn: Option<Turn>) -> Option<Turn>
+    ensures { result ≡ turn_behind_line motion still turn }
+{
+    match motion {
+        Some(Motion::Goes(_) | Motion::Drills(_)) => None,
+        Some(Motion::Turns(new)) => Some(new),
+        None if still => None,
+        None => turn,
+    }
+}
+
+// So many units is a length of 1 of a line's tolerance, in millimetres behind it or in inches.
+fn path_per(unit: Unit, said: &MachineSaid, millimetres: bool) -> u64
+    ensures value { result ≡ path_per_line unit said.now millimetres }
+    ensures few { result ≤ 25400 }
+{
+    if millimetres_behind(said.lengths, millimetres) {
+        LengthUnit::Millimetres.per(unit)
+    } else {
+        LengthUnit::Inches.per(unit)
+    }
+}
+
+// Whether the path may be left by more units than these behind it.
+fn wide_behind(room: i32, per: u64, said: &MachineSaid, before: bool) -> bool
+    requires said { FitsTold said.now }
+    requires per { per ≤ 25400 }
+    ensures { result ≡ wide_behind_line room per said.now before }
+{
+    if said.tolerates {
+        return match said.p {
+            Some(num) => !is_at_most(per, room, num),
+            None => false,
+        };
+    }
+    before && !said.exact
 }
 
 // A series lasts while there is no other motion mode.

@@ -113,6 +113,7 @@ line_of_program (program_fault.NoAbsolute line) = line
 line_of_program (program_fault.NoMotion line) = line
 line_of_program (program_fault.NoSpindle line) = line
 line_of_program (program_fault.NoFeed line) = line
+line_of_program (program_fault.Arc line) = line
 line_of_program (program_fault.Cycle line) = line
 line_of_program (program_fault.OffGrid line) = line
 line_of_program (program_fault.OutOfRange line) = line

@@ -221,6 +221,7 @@ fn line_of(fault: NgcFault) -> u64
         NgcFault::NoMotion { line } => line,
         NgcFault::NoSpindle { line } => line,
         NgcFault::NoFeed { line } => line,
+        NgcFault::Arc { line } => line,
         NgcFault::Cycle { line } => line,
         NgcFault::OffGrid { line } => line,
         NgcFault::OutOfRange { line } => line,

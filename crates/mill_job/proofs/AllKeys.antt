@@ -104,17 +104,19 @@ is_job unit cutter space measure paths extras c s m p e related = record {
   overcut_ok = e.overcut_ok;
   graze_ok = e.graze_ok;
   peck_clearance_ok = e.peck_clearance_ok;
+  arc_tol_ok = e.arc_tol_ok;
   keep_out_ok = e.keep_out_ok;
   room = related.of_room.room;
   holder_room = related.of_room.holder_room;
   away = related.of_room.away;
+  arc_room = related.of_room.arc_room;
 }
 
 -- the numbers with which the relations are reckoned are in range
 pub is_ranged : (unit : Unit) (cutter : Cutter) (space : Space) (measure : Measure) (paths : Paths) (extras : Extras)
     → IsCutter cutter → IsSpace unit space → IsMeasure measure → ArePaths unit paths → AreExtras unit extras → IsRanged (job_of_groups unit cutter space measure paths extras)
 is_ranged unit cutter space measure paths extras c s m p e =
-    record { cutter_ok = c; floor_ok = s.floor_ok; top_ok = s.top_ok; clear_ok = s.clear_ok; area_ok = s.area_ok; pitch_ok = m.pitch_ok; layer_ok = p.layer_ok; slack_ok = e.slack_ok; graze_ok = e.graze_ok }
+    record { cutter_ok = c; floor_ok = s.floor_ok; top_ok = s.top_ok; clear_ok = s.clear_ok; area_ok = s.area_ok; pitch_ok = m.pitch_ok; layer_ok = p.layer_ok; slack_ok = e.slack_ok; graze_ok = e.graze_ok; arc_tol_ok = e.arc_tol_ok }
 
 -- behind keys with which nothing is wrong, the relations decide
 pub by_relations : (answer : Result JobFields JobFault) (fault : Option JobFault) (job other : JobFields) (faults : List (Option JobFault))

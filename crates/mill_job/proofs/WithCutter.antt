@@ -42,8 +42,10 @@ is_job_with job cutter ok fits = record {
   overcut_ok = ok.overcut_ok;
   graze_ok = ok.graze_ok;
   peck_clearance_ok = ok.peck_clearance_ok;
+  arc_tol_ok = ok.arc_tol_ok;
   keep_out_ok = ok.keep_out_ok;
   room = room_with job cutter cutter fits.room;
   holder_room = holder_room_with job cutter ok.holder_room;
   away = ok.away;
+  arc_room = ok.arc_room;
 }

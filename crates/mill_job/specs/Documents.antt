@@ -16,11 +16,11 @@ use Rattle.mill_job.specs.Cutters.{cutter_faults, cutter_of, shape_fault, slope_
 use Rattle.mill_job.specs.Fixtures.{fixtures_at, fixtures_fault, is_under}
 use Rattle.mill_job.specs.Habits.{flag_at, flag_fault, lengths_of, lengths_texts, rapids_of, rapids_texts, start_of, start_texts, starts_at_home, words_of, words_texts}
 use Rattle.mill_job.specs.Holders.{holder_fault, holder_of, is_narrow}
-use Rattle.mill_job.specs.Slack.{graze_of, is_holder_close, is_low, is_shallow, is_tight}
+use Rattle.mill_job.specs.Slack.{are_arcs_tight, graze_of, is_holder_close, is_low, is_shallow, is_tight}
 use Rattle.mill_job.specs.Keys.{name_of, every_key, unknown_but}
 use Rattle.mill_job.specs.Tables.{text_fault_if_there, number_fault, number_fault_if_there, coordinate_fault, array_fault, array_fault_if_there, is_area, is_place, are_levels, number_given, number_at, number_or, numbers_at, area_of, place_of, levels_of, fault_if, first, checked}
 use Rattle.mill_job.specs.declared.fields.JobFields.{JobFields}
-use Rattle.mill_job.specs.declared.limits.TheConstants.{MAX_DISTANCE, MAX_GRAZE, MAX_LAYERS, MAX_OVERCUT, MAX_SLACK}
+use Rattle.mill_job.specs.declared.limits.TheConstants.{MAX_ARC_TOL, MAX_DISTANCE, MAX_GRAZE, MAX_LAYERS, MAX_OVERCUT, MAX_SLACK}
 use Rattle.mill_job.specs.declared.key.Key.TheVariants as key
 use Rattle.mill_job.specs.declared.fault.JobFault.{JobFault}
 use Rattle.mill_job.specs.declared.fault.JobFault.TheVariants.{Syntax, Unknown, Relation, WantOfMemory}
@@ -75,6 +75,7 @@ key_faults_in unit ms =
     ∷ text_fault_if_there key.Words words_texts ms
     ∷ number_fault_if_there key.PeckClearance (pos 0) MAX_DISTANCE ms
     ∷ text_fault_if_there key.Lengths lengths_texts ms
+    ∷ number_fault_if_there key.ArcTol (pos 1) MAX_ARC_TOL ms
     ∷ []
 
 -- what is wrong with each key, in the format's order: the unit comes first, since the ranges of others are by it
@@ -131,6 +132,7 @@ job_with unit ms = record {
   words = words_of ms;
   peck_clearance = number_given key.PeckClearance ms;
   lengths = lengths_of ms;
+  arc_tol = number_given key.ArcTol ms;
 }
 
 -- the same in the document's unit
@@ -173,6 +175,7 @@ relation_faults job =
     ∷ fault_if (is_low job job.cutter) (Relation key.Slack key.Clear)
     ∷ fault_if (not (are_under job job.cutter)) (Relation key.KeepOut key.Clear)
     ∷ fault_if (starts_at_home job) (Relation key.Words key.Start)
+    ∷ fault_if (are_arcs_tight job.slack job.arc_tol) (Relation key.ArcTol key.Slack)
     ∷ []
 
 -- what is wrong between another cutter and a job's numbers, in order

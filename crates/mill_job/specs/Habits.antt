@@ -1,5 +1,5 @@
 -- What a document says of a machine's habits, and what is wrong with it.
-use Rattle.std.specs.Prelude.{ℕ, codes, bytes_eq, Bool, true, false, if◌then◌else◌, List, [], ◌∷◌, map, ℤ, pos, not, ◌&&◌, Option, Some, None, option_and_then, unwrap_or}
+use Rattle.std.specs.Prelude.{ℕ, codes, bytes_eq, Bool, true, false, if◌then◌else◌, List, [], ◌∷◌, map, ℤ, pos, ◌+ℤ◌, ◌-ℤ◌, not, ◌&&◌, Option, Some, None, option_and_then, unwrap_or}
 use Rattle.toml.specs.Data.{Members, get_member, as_bool, as_str}
 use Rattle.mill_base.specs.Motion.{bent, bent_kind, changes_two}
 use Rattle.mill_base.specs.declared.motion.Kind.{Kind}
@@ -14,6 +14,7 @@ use Rattle.mill_job.specs.declared.habits.Start.TheVariants as start
 use Rattle.mill_base.specs.declared.unit.Unit.{Unit}
 use Rattle.mill_base.specs.declared.unit.Unit.TheVariants.{Hundredth, Thousandth}
 use Rattle.mill_job.specs.declared.fields.JobFields.{JobFields}
+use Rattle.mill_job.specs.declared.limits.TheConstants.{SPARE_ARC}
 use Rattle.mill_job.specs.declared.habits.ToolLengths.{ToolLengths}
 use Rattle.mill_job.specs.declared.habits.ToolLengths.TheVariants.{Table, One}
 use Rattle.mill_job.specs.declared.habits.Words.{Words}
@@ -96,6 +97,18 @@ quarter_of Thousandth = pos 250
 
 abbrev pub clearance_of : JobFields → ℤ
 clearance_of job = unwrap_or job.peck_clearance (quarter_of job.unit)
+
+-- by how many units the distances of an arc's start and end from its centre may differ, where the document doesn't say
+abbrev pub usual_arc_tolerance : Unit → ℤ
+usual_arc_tolerance Hundredth = pos 1
+usual_arc_tolerance Thousandth = pos 3
+
+abbrev pub arc_tolerance_of : JobFields → ℤ
+arc_tolerance_of job = unwrap_or job.arc_tol (usual_arc_tolerance job.unit)
+
+-- how many units of the slack an arc leaves for the machine: there is no room for arcs where that is under 0
+abbrev pub arc_room_of : JobFields → ℤ
+arc_room_of job = job.slack -ℤ (arc_tolerance_of job +ℤ SPARE_ARC)
 
 -- the texts of what a machine does with tool lengths
 abbrev pub lengths_texts : List (List ℕ)

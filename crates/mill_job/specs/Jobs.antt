@@ -14,7 +14,7 @@ use Rattle.mill_job.specs.Slack.{graze_of}
 use Rattle.mill_job.specs.Solids.{holder_solid_of, outer_of, part_solid_of}
 use Rattle.mill_job.specs.Tables.{IsPlace}
 use Rattle.mill_job.specs.declared.fields.JobFields.{JobFields}
-use Rattle.mill_job.specs.declared.limits.TheConstants.{MAX_DISTANCE, MAX_GRAZE, MAX_LAYERS, MAX_LEVELS, MAX_OVERCUT, MAX_SLACK}
+use Rattle.mill_job.specs.declared.limits.TheConstants.{MAX_ARC_TOL, MAX_DISTANCE, MAX_GRAZE, MAX_LAYERS, MAX_LEVELS, MAX_OVERCUT, MAX_SLACK, SPARE_ARC}
 use Rattle.mill_margin.specs.Margins.{offset_of}
 
 -- z is from lo to hi
@@ -98,10 +98,12 @@ pub record IsJob (job : JobFields) : Type 0 where
   pub overcut_ok : IsFrom (pos 0) MAX_OVERCUT job.overcut
   pub graze_ok : IfSome job.graze (IsFrom (pos 0) MAX_GRAZE)
   pub peck_clearance_ok : IfSome job.peck_clearance (IsFrom (pos 0) MAX_DISTANCE)
+  pub arc_tol_ok : IfSome job.arc_tol (IsFrom (pos 1) MAX_ARC_TOL)
   pub keep_out_ok : AreFixtures job.unit job.keep_out
   pub room : HasRoom job job.cutter
   pub holder_room : HolderHasRoom job
   pub away : starts_at_home job ≡ false
+  pub arc_room : IfSome job.arc_tol (λ tolerance. (tolerance +ℤ SPARE_ARC) ≤ℤ job.slack)
 
 -- the job's relations hold with this cutter in the place of its own
 pub record FitsJob (job : JobFields) (cutter : Cutter) : Type 0 where

@@ -42,13 +42,14 @@ name_of key.Spindle = codes "spindle"
 name_of key.Words = codes "words"
 name_of key.PeckClearance = codes "peck_clearance"
 name_of key.Lengths = codes "lengths"
+name_of key.ArcTol = codes "arc_tol"
 name_of key.Steps = codes "steps"
 name_of key.Program = codes "program"
 name_of key.Feed = codes "feed"
 
 -- every key of a job but that of the unit, in the format's order
 abbrev pub other_keys : List Key
-other_keys = key.Cutter ∷ key.Radius ∷ key.Rise ∷ key.Run ∷ key.Floor ∷ key.Top ∷ key.Clear ∷ key.Area ∷ key.Home ∷ key.Pitch ∷ key.Sample ∷ key.Allowance ∷ key.Band ∷ key.Lift ∷ key.Raster ∷ key.RoughRaster ∷ key.Layer ∷ key.RoughStock ∷ key.Levels ∷ key.Snap ∷ key.MaxCut ∷ key.HolderRadius ∷ key.Stickout ∷ key.PathTol ∷ key.Slack ∷ key.Overcut ∷ key.Graze ∷ key.KeepOut ∷ key.Rapids ∷ key.Start ∷ key.Spindle ∷ key.Words ∷ key.PeckClearance ∷ key.Lengths ∷ []
+other_keys = key.Cutter ∷ key.Radius ∷ key.Rise ∷ key.Run ∷ key.Floor ∷ key.Top ∷ key.Clear ∷ key.Area ∷ key.Home ∷ key.Pitch ∷ key.Sample ∷ key.Allowance ∷ key.Band ∷ key.Lift ∷ key.Raster ∷ key.RoughRaster ∷ key.Layer ∷ key.RoughStock ∷ key.Levels ∷ key.Snap ∷ key.MaxCut ∷ key.HolderRadius ∷ key.Stickout ∷ key.PathTol ∷ key.Slack ∷ key.Overcut ∷ key.Graze ∷ key.KeepOut ∷ key.Rapids ∷ key.Start ∷ key.Spindle ∷ key.Words ∷ key.PeckClearance ∷ key.Lengths ∷ key.ArcTol ∷ []
 
 -- every key of a job, in the format's order
 abbrev pub every_key : List Key

@@ -5,7 +5,7 @@ use Rattle.mill_base.specs.Solids.{Solid}
 use Rattle.mill_base.specs.declared.cutter.Cutter.{Cutter}
 use Rattle.mill_base.specs.declared.limits.TheConstants.{MAX_RADIUS}
 use Rattle.mill_job.specs.declared.fields.JobFields.{JobFields}
-use Rattle.mill_job.specs.declared.limits.TheConstants.{SPARE_GRAZE}
+use Rattle.mill_job.specs.declared.limits.TheConstants.{SPARE_ARC, SPARE_GRAZE}
 use Rattle.mill_margin.specs.Margins.{offset_of}
 
 -- the graze where the job doesn't say: 0 without a slack, else 5 more than twice the slack
@@ -28,6 +28,11 @@ is_shallow cutter slack graze = int_lt graze (pos 2 *ℤ slack) || int_lt (offse
 abbrev pub is_holder_close : ℤ → Option Solid → Bool
 is_holder_close slack None = false
 is_holder_close slack (Some holder) = int_le holder.lift (offset_of holder.cutter slack) || int_lt MAX_RADIUS (radius_of holder.cutter +ℤ slack)
+
+-- a tolerance of arcs is given, and with two units more it is over a slack
+abbrev pub are_arcs_tight : ℤ → Option ℤ → Bool
+are_arcs_tight slack None = false
+are_arcs_tight slack (Some tolerance) = int_lt slack (tolerance +ℤ SPARE_ARC)
 
 -- a cutter with the slack around it reaches under the top from the clear height
 abbrev pub is_low : JobFields → Cutter → Bool

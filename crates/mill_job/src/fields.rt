@@ -85,4 +85,8 @@ pub struct JobFields {
     pub peck_clearance: Option<i32>,
     /// What the machine does with the lengths of its tools.
     pub lengths: ToolLengths,
+    /// By how many units the distances of an arc's start and end from its centre may differ, from 1
+    /// to 100, and at least two less than the slack; with `None` it is as
+    /// [`Job::arc_tolerance`](crate::Job::arc_tolerance) says.
+    pub arc_tol: Option<i32>,
 }

@@ -15,7 +15,7 @@ use crate::holder::holder;
 use crate::keep_out::keep_out;
 use crate::key::Key;
 use crate::levels::Levels;
-use crate::limits::{MAX_DISTANCE, MAX_GRAZE, MAX_OVERCUT, MAX_SLACK};
+use crate::limits::{MAX_ARC_TOL, MAX_DISTANCE, MAX_GRAZE, MAX_OVERCUT, MAX_SLACK};
 use crate::values::{
     coordinate, depth, flag, lengths, number, number_if_there, number_or, rapids, snap, start,
     words,
@@ -71,6 +71,7 @@ pub struct Extras {
     pub words: Words,
     pub peck_clearance: Option<i32>,
     pub lengths: ToolLengths,
+    pub arc_tol: Option<i32>,
 }
 
 /// Where the document's stock stands, and from where programs start.
@@ -142,5 +143,6 @@ pub fn extras_in(table: &Table, unit: Unit) -> Result<Extras, JobFault>
         words: words(table)?,
         peck_clearance: number_if_there(table, Key::PeckClearance, 0, MAX_DISTANCE)?,
         lengths: lengths(table)?,
+        arc_tol: number_if_there(table, Key::ArcTol, 1, MAX_ARC_TOL)?,
     })
 }

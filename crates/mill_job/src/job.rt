@@ -5,6 +5,7 @@ ghost use Rattle.mill_job.specs.Solids.{solids_of};
 
 use crate::fields::JobFields;
 use crate::fixtures::Fixture;
+use crate::limits::SPARE_ARC;
 use crate::positions::{count, position};
 use crate::slack::graze;
 use crate::solids::{Solids, solids_by};
@@ -28,11 +29,12 @@ impl Job {
     ghost use Rattle.mill_base.specs.Units.{greatest_of};
     ghost use Rattle.mill_job.specs.Columns.{row_count, column_count, column_x as x_of_column, column_y, home as home_of};
     ghost use Rattle.mill_job.specs.Fixtures.{IsFixture, IsUnder};
-    ghost use Rattle.mill_job.specs.Habits.{clearance_of};
+    ghost use Rattle.mill_job.specs.Habits.{arc_room_of, arc_tolerance_of, clearance_of};
     ghost use Rattle.mill_job.specs.Jobs.{part_tool_of, tool_of};
     ghost use Rattle.mill_job.specs.Solids.{holder_solid_of, inner_of, outer_of, part_solid_of, stock_solid_of};
     ghost use Rattle.mill_job.specs.Slack.{graze_of};
-    ghost use Rattle.mill_job.specs.declared.limits.TheConstants.{MAX_DISTANCE, MAX_FIXTURES};
+    ghost use Rattle.mill_job.specs.declared.limits.TheConstants.{MAX_ARC_TOL, MAX_DISTANCE};
+    ghost use Rattle.mill_job.specs.declared.limits.TheConstants.{MAX_FIXTURES};
     ghost use Rattle.mill_margin.specs.Margins.{IsMargin, offset_of};
 
     /// The job of these numbers, with the solids of its tool.
@@ -193,6 +195,31 @@ impl Job {
                 Unit::Thousandth => 250,
             },
         }
+    }
+
+    /// By how many units the distances of an arc's start and end from its centre may differ: where
+    /// the document doesn't say 1, and 3 where a unit is a thousandth of a millimetre.
+    pub fn arc_tolerance(&self) -> i32
+        ensures value { result ≡ arc_tolerance_of self.now.fields }
+        ensures least { pos 1 ≤ℤ result }
+        ensures most { result ≤ℤ MAX_ARC_TOL }
+    {
+        match self.fields.arc_tol {
+            Some(tolerance) => tolerance,
+            None => match self.fields.unit {
+                Unit::Hundredth => 1,
+                Unit::Thousandth => 3,
+            },
+        }
+    }
+
+    /// How many units of the slack an arc leaves for the machine: those that are over its tolerance
+    /// and two units. It has no room for arcs where that is under 0; where the document gives their
+    /// tolerance it isn't.
+    pub fn arc_room(&self) -> i32
+        ensures { result ≡ arc_room_of self.now.fields }
+    {
+        self.fields.slack - (self.arc_tolerance() + SPARE_ARC)
     }
 
     /// Where a program starts: over home, at the clear height.

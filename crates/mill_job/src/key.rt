@@ -41,6 +41,7 @@ pub enum Key {
     Words,
     PeckClearance,
     Lengths,
+    ArcTol,
     /// The key of a list.
     Steps,
     /// A key of each of its steps, beside those of the cutter.
@@ -51,7 +52,7 @@ pub enum Key {
 }
 
 /// The keys of a job's document, in the format's order.
-pub const JOB_KEYS: [Key; 35] = [
+pub const JOB_KEYS: [Key; 36] = [
     Key::Unit,
     Key::Cutter,
     Key::Radius,
@@ -87,6 +88,7 @@ pub const JOB_KEYS: [Key; 35] = [
     Key::Words,
     Key::PeckClearance,
     Key::Lengths,
+    Key::ArcTol,
 ];
 
 impl Key {
@@ -130,6 +132,7 @@ impl Key {
             Key::Words => "words",
             Key::PeckClearance => "peck_clearance",
             Key::Lengths => "lengths",
+            Key::ArcTol => "arc_tol",
             Key::Steps => "steps",
             Key::Program => "program",
             Key::Feed => "feed",

@@ -16,6 +16,12 @@ pub const MAX_GRAZE: i32 = 500;
 /// How much the graze is over twice a slack where the job doesn't say.
 pub const SPARE_GRAZE: i32 = 5;
 
+/// The greatest tolerance of arcs.
+pub const MAX_ARC_TOL: i32 = 100;
+
+/// How much a slack is over a tolerance of arcs at least, where the job has one.
+pub const SPARE_ARC: i32 = 2;
+
 /// The most layers that roughing may take off.
 pub const MAX_LAYERS: i32 = 1_000;
 

@@ -69,6 +69,7 @@ fn assembled(
         words: extras.words,
         peck_clearance: extras.peck_clearance,
         lengths: extras.lengths,
+        arc_tol: extras.arc_tol,
     }
 }
 
@@ -112,28 +113,30 @@ fn read_fields(alloc: Global, text: &[u8]) -> Result<JobFields, JobFault>
 
 /// Reads a job: a TOML 1.0 document with each key of [`Key`] and no other; `unit`, `snap`, `lift`,
 /// `raster`, `rough_raster`, `layer`, `rough_stock`, `levels`, `max_cut`, `path_tol`, `slack`,
-/// `overcut`, `graze`, `keep_out`, `rapids`, `start`, `spindle`, `words`, `peck_clearance` and
-/// `lengths` may be left out, `rise` and `run` where the cutter is no cone, and `holder_radius` and `stickout` both or neither.
+/// `overcut`, `graze`, `keep_out`, `rapids`, `start`, `spindle`, `words`, `peck_clearance`,
+/// `lengths` and `arc_tol` may be left out, `rise` and `run` where the cutter is no cone, and
+/// `holder_radius` and `stickout` both or neither.
 ///
 /// `unit` is a text, `hundredth` for 0.01 mm or `thousandth` for 0.001 mm; numbers are whole, in
 /// that unit. `cutter` is a text, `flat`, `ball` or `cone`. `radius`, `pitch`, `sample`, `raster`,
-/// `rough_raster` and `holder_radius` are from 1 to 10,000, `rise` and `run` from 1 to 100,
-/// `allowance`, `band`, `lift`, `rough_stock`, `path_tol` and `peck_clearance` from 0 to 10,000, `slack` from 0 to
-/// 200, `overcut` and `graze` from 0 to 500; `layer` and `max_cut` from 0, and `stickout` from 1,
-/// to the unit's greatest coordinate, which is 131,071 or 524,287. `floor`, `top`, `clear` and the
-/// members of `area`, `home` and `levels` are coordinates, of a magnitude of at most that. `area`
-/// has x0, y0, x1, y1, with x0 at most x1 and y0 at most y1; `home` has x, y; `levels` has at most
-/// 64 members, each less than the one before it. `snap` is a text, `nearest` or `exact`. `keep_out`
-/// has at most 64 members, each an array of five coordinates x0, y0, x1, y1, z, with x0 at most x1
-/// and y0 at most y1. `rapids` is a text, `straight` or `axes`, and `start` one, `home`, `anywhere`
-/// or `change`. `spindle` is a truth value. `words` is a text, `strict` or `machine`, and `lengths` one,
-/// `table` or `one`.
+/// `rough_raster` and `holder_radius` are from 1 to 10,000, `rise`, `run` and `arc_tol` from 1 to
+/// 100, `allowance`, `band`, `lift`, `rough_stock`, `path_tol` and `peck_clearance` from 0 to
+/// 10,000, `slack` from 0 to 200, `overcut` and `graze` from 0 to 500; `layer` and `max_cut` from
+/// 0, and `stickout` from 1, to the unit's greatest coordinate, which is 131,071 or 524,287.
+/// `floor`, `top`, `clear` and the members of `area`, `home` and `levels` are coordinates, of a
+/// magnitude of at most that. `area` has x0, y0, x1, y1, with x0 at most x1 and y0 at most y1;
+/// `home` has x, y; `levels` has at most 64 members, each less than the one before it. `snap` is a
+/// text, `nearest` or `exact`. `keep_out` has at most 64 members, each an array of five coordinates
+/// x0, y0, x1, y1, z, with x0 at most x1 and y0 at most y1. `rapids` is a text, `straight` or
+/// `axes`, and `start` one, `home`, `anywhere` or `change`. `spindle` is a truth value. `words` is
+/// a text, `strict` or `machine`, and `lengths` one, `table` or `one`.
 ///
 /// In a document without them `unit` is `hundredth`, `lift`, `layer`, `rough_stock`, `max_cut`,
 /// `slack` and `overcut` are 0, `raster` is the pitch, `rough_raster` the raster, `levels` and
 /// `keep_out` have no member, `snap` is `nearest`, there is no holder and no tolerance of paths,
 /// `graze` is as [`Job::graze`] says, `rapids` is `straight`, `start` is `home`, `spindle` is false,
-/// `words` is `strict`, `peck_clearance` a quarter of a millimetre, and `lengths` is `table`.
+/// `words` is `strict`, `peck_clearance` a quarter of a millimetre, `lengths` is `table`, and
+/// `arc_tol` is as [`Job::arc_tolerance`] says.
 ///
 /// The relations are: only a cone has a rise, only a cone has a run, rise is at most 16 times run,
 /// floor at most top, top at most clear, there are at most 4,000,000 columns, band is at most
@@ -142,7 +145,8 @@ fn read_fields(alloc: Global, text: &[u8]) -> Result<JobFields, JobFault>
 /// are less than radius, and radius and slack together at most 10,000, graze is at least twice
 /// slack, and its offset at least twice the slack's, a holder's stickout is over slack, and its
 /// radius and slack together at most 10,000, top and the slack's offset together are at most clear,
-/// and so are z of each of `keep_out` and that offset.
+/// and so are z of each of `keep_out` and that offset, words is `strict` or start isn't `home`, and
+/// an arc_tol that is there is at least two less than slack.
 ///
 /// A fault is the first in this order: the document's syntax; an unknown key, the first by its
 /// bytes; for each key in the order of [`Key`], that it is missing, of a wrong kind or out of

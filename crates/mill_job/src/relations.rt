@@ -17,7 +17,7 @@ use crate::fitting::has_narrow_holder;
 use crate::key::Key;
 use crate::limits::MAX_LAYERS;
 use crate::positions::count;
-use crate::slack::{clears_fixtures, has_close_holder, has_low_clear, slack_fault};
+use crate::slack::{clears_fixtures, has_close_holder, has_low_clear, has_tight_arcs, slack_fault};
 use mill_base::MAX_COLUMNS;
 
 /// Whether roughing takes off more layers than it may.
@@ -100,7 +100,8 @@ fn starts_at_home(job: &JobFields) -> bool
 }
 
 /// The first relation that fails between a job's slack, its overcut or its graze and its cutter,
-/// its holder, its heights or its fixtures, or between its words and its start.
+/// its holder, its heights, its fixtures or its tolerance of arcs, or between its words and its
+/// start.
 fn room_fault(job: &JobFields) -> Option<JobFault>
     requires { IsRanged job.now }
     ensures value { result ≡ first (room_faults job.now) }
@@ -120,6 +121,9 @@ fn room_fault(job: &JobFields) -> Option<JobFault>
     }
     if starts_at_home(job) {
         return Some(JobFault::Relation(Key::Words, Key::Start));
+    }
+    if has_tight_arcs(job) {
+        return Some(JobFault::Relation(Key::ArcTol, Key::Slack));
     }
     None
 }

@@ -7,16 +7,18 @@ ghost use Rattle.mill_base.specs.Units.{greatest_of};
 ghost use Rattle.mill_job.specs.Documents.{are_under, slack_faults};
 ghost use Rattle.mill_job.specs.Fixtures.{IsUnder};
 ghost use Rattle.mill_job.specs.Jobs.{HolderHasRoom, IsFrom, IsRoomy};
-ghost use Rattle.mill_job.specs.Slack.{graze_of, is_holder_close, is_low, is_shallow, is_tight};
+ghost use Rattle.mill_job.specs.Slack.{are_arcs_tight, graze_of, is_holder_close, is_low};
+ghost use Rattle.mill_job.specs.Slack.{is_shallow, is_tight};
 ghost use Rattle.mill_job.specs.Tables.{first};
-ghost use Rattle.mill_job.specs.declared.limits.TheConstants.{MAX_GRAZE, MAX_SLACK};
+ghost use Rattle.mill_job.specs.declared.limits.TheConstants.{MAX_ARC_TOL, MAX_GRAZE, MAX_SLACK};
+ghost use Rattle.mill_job.specs.declared.limits.TheConstants.{SPARE_ARC};
 ghost use Rattle.mill_margin.specs.Margins.{offset_of, IsMargin};
 
 use crate::fault::JobFault;
 use crate::fields::JobFields;
 use crate::fixtures::Fixture;
 use crate::key::Key;
-use crate::limits::SPARE_GRAZE;
+use crate::limits::{SPARE_ARC, SPARE_GRAZE};
 use mill_base::{Cutter, MAX_RADIUS, Solid};
 use mill_margin::offset;
 
@@ -136,4 +138,18 @@ pub fn clears_fixtures(job: &JobFields, cutter: &Cutter) -> bool
         job.keep_out.as_slice(),
         job.clear - offset(*cutter, job.slack),
     )
+}
+
+/// Whether the job has a tolerance of arcs for which its slack has no room.
+pub fn has_tight_arcs(job: &JobFields) -> bool
+    requires slack_ok { IsFrom (pos 0) MAX_SLACK job.now.slack }
+    requires arc_tol_ok { IfSome job.now.arc_tol (IsFrom (pos 1) MAX_ARC_TOL) }
+    ensures value { result ≡ are_arcs_tight job.now.slack job.now.arc_tol }
+    ensures no { result ≡ false →
+        IfSome job.now.arc_tol (λ tolerance. (tolerance +ℤ SPARE_ARC) ≤ℤ job.now.slack) }
+{
+    match job.arc_tol {
+        Some(tolerance) => job.slack < tolerance + SPARE_ARC,
+        None => false,
+    }
 }

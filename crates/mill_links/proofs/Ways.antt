@@ -14,7 +14,7 @@ use Rattle.mill_job.specs.declared.habits.Words.TheVariants.{Strict}
 use Rattle.mill_links.specs.Links.{feed_to, over_stock, peck_count, plunge}
 
 abbrev plate : JobFields
-plate = record { unit = Hundredth; cutter = Flat (pos 150); floor = pos 0; top = pos 300; clear = pos 400; area = record { x0 = pos 0; y0 = pos 0; x1 = pos 200; y1 = pos 200 }; home = record { x = pos 100; y = pos 100 }; pitch = pos 100; sample = pos 50; allowance = pos 0; band = pos 0; lift = pos 0; raster = pos 100; rough_raster = pos 100; layer = pos 0; rough_stock = pos 0; levels = []; snap = Nearest; max_cut = pos 0; holder = None; path_tol = None; slack = pos 0; overcut = pos 0; graze = None; keep_out = []; rapids = Straight; start = Home; spindle = false; words = Strict; peck_clearance = None; lengths = Table }
+plate = record { unit = Hundredth; cutter = Flat (pos 150); floor = pos 0; top = pos 300; clear = pos 400; area = record { x0 = pos 0; y0 = pos 0; x1 = pos 200; y1 = pos 200 }; home = record { x = pos 100; y = pos 100 }; pitch = pos 100; sample = pos 50; allowance = pos 0; band = pos 0; lift = pos 0; raster = pos 100; rough_raster = pos 100; layer = pos 0; rough_stock = pos 0; levels = []; snap = Nearest; max_cut = pos 0; holder = None; path_tol = None; slack = pos 0; overcut = pos 0; graze = None; keep_out = []; rapids = Straight; start = Home; spindle = false; words = Strict; peck_clearance = None; lengths = Table; arc_tol = None }
 
 -- so many pecks end over a place 200 under the top, and the last feed ends there; at the top, over it, and without a limit there is that feed alone
 peck_counts : map (λ depth. peck_count depth (pos 200)) (pos 0 ∷ pos 50 ∷ pos 150 ∷ pos 199 ∷ pos 200 ∷ []) ≡ 0 ∷ 3 ∷ 1 ∷ 1 ∷ 0 ∷ []

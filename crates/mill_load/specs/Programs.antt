@@ -9,7 +9,7 @@ use Rattle.mill_said.specs.declared.rules.Words.{Words as Dialect}
 use Rattle.mill_said.specs.declared.rules.Words.TheVariants as dialect
 use Rattle.mill_job.specs.declared.fields.JobFields.{JobFields}
 use Rattle.mill_job.specs.Columns.{home}
-use Rattle.mill_job.specs.Habits.{clearance_of, is_elsewhere, run_by}
+use Rattle.mill_job.specs.Habits.{arc_room_of, arc_tolerance_of, clearance_of, is_elsewhere, run_by}
 use Rattle.mill_job.specs.declared.habits.Start.{Start}
 use Rattle.mill_job.specs.declared.habits.Start.TheVariants as start
 use Rattle.mill_job.specs.declared.habits.ToolLengths.{ToolLengths}
@@ -37,7 +37,7 @@ change_raises start.Change = true
 
 -- what a job says of its machine's control
 abbrev pub control_of : JobFields → Control
-control_of job = record { rounds = rounds_text job.slack; path_tolerance = machine_slack job.slack; peck_clearance = nat_abs (clearance_of job); one_length = are_one job.lengths; change_raises = change_raises job.start }
+control_of job = record { rounds = rounds_text job.slack; path_tolerance = machine_slack job.slack; arc_tolerance = nat_abs (arc_tolerance_of job); arc_room = arc_room_of job; peck_clearance = nat_abs (clearance_of job); one_length = are_one job.lengths; change_raises = change_raises job.start }
 
 -- which words its programs have
 abbrev pub dialect_of : Words → JobFields → Dialect

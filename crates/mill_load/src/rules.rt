@@ -1,6 +1,6 @@
 //! What a job asks of its programs beside what their words mean, and which words they have.
 ghost use Rattle.std.specs.Prelude.{◌≡◌, nat_abs};
-ghost use Rattle.mill_job.specs.Habits.{clearance_of};
+ghost use Rattle.mill_job.specs.Habits.{arc_tolerance_of, clearance_of};
 ghost use Rattle.mill_load.specs.Programs.{are_one, change_raises, control_of, dialect_of};
 ghost use Rattle.mill_load.specs.Programs.{machine_slack as machine_slack_of, rounds_text};
 ghost use Rattle.mill_load.specs.Programs.{rules_of};
@@ -41,6 +41,8 @@ fn control(job: &Job) -> Control
     Control {
         rounds: slack >= TEXT_SLACK,
         path_tolerance: machine_slack(slack),
+        arc_tolerance: arc_tolerance(job),
+        arc_room: job.arc_room(),
         peck_clearance: peck_clearance(job),
         one_length: matches!(job.fields.lengths, ToolLengths::One),
         change_raises: matches!(job.fields.start, Start::Change),
@@ -52,6 +54,13 @@ fn peck_clearance(job: &Job) -> u16
     ensures { result ≡ nat_abs (clearance_of job.now.fields) }
 {
     job.peck_clearance().unsigned_abs() as u16
+}
+
+// The tolerance of arcs, which is 1 to 100.
+fn arc_tolerance(job: &Job) -> u8
+    ensures { result ≡ nat_abs (arc_tolerance_of job.now.fields) }
+{
+    job.arc_tolerance().unsigned_abs() as u8
 }
 
 // What is left of the slack for the machine.

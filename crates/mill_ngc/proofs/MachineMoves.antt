@@ -1,6 +1,7 @@
 -- To a program for a machine, too, the lines of moves mean these moves, behind the way to their first place.
 use Rattle.std.proofs.Common.{◌≡◌, ℕ, ◌+◌, ◌*◌, ◌^◌, ◌≤◌, ◌<◌, ◌/◌, ◌%◌, suc, Bool, true, false, List, [], ◌∷◌, ◌++◌, length, map, arith, rules, Option, Some, None, Result, Ok, Err, refl, sym, ap, ◌∙◌, append_assoc, subst}
-use Rattle.std.specs.Prelude.{⊤, ℤ, pos, negsuc, nat_abs, int_le, int_lt, nat_lt, nat_le, codes, not, ◌&&◌, ◌||◌, if◌then◌else◌}
+use Rattle.mill_words.specs.Words.{FitsNum}
+use Rattle.std.specs.Prelude.{⊤, ℤ, ◌+ℤ◌, ◌-ℤ◌, ◌*ℤ◌, pos, negsuc, nat_abs, int_le, int_lt, nat_lt, nat_le, codes, not, ◌&&◌, ◌||◌, if◌then◌else◌}
 use Rattle.std.proofs.Math.Nat.{div-eq_of_lt-le, mul-mod_left}
 use Rattle.std.proofs.lemmas.Bool.Decides.{nat_tests}
 use Rattle.std.proofs.lemmas.Int.{ints}
@@ -41,9 +42,12 @@ use Rattle.mill_said.specs.declared.rules.Control.{Control}
 use Rattle.mill_said.specs.declared.rules.Words.TheVariants.{Machine as MachineWords}
 use Rattle.mill_block.specs.Drives.{no_drive}
 use Rattle.mill_block.specs.Lines.{after_words, after_line, is_percent, settled_before, start_at}
-use Rattle.mill_block.specs.MachineLines.{Done, acts_by, gone_to, machine_acted, machine_behind, machine_done, names_by, naming_of, target_for, units_for, with_place, with_stop}
+use Rattle.mill_control.specs.Unrounded.{parts, text_units}
+use Rattle.mill_block.proofs.TextLemmas.{number_near}
+use Rattle.mill_block.specs.declared.machine.Finer.{Finer}
+use Rattle.mill_block.specs.MachineLines.{Done, exact_to, exactly, acts_by, gone_to, machine_acted, machine_behind, machine_done, names_by, naming_of, target_for, units_for, with_place, with_stop}
 use Rattle.mill_said.specs.MachineSaid.{nothing_told, told_from, told_line, told_row}
-use Rattle.mill_block.specs.MachineSettings.{machine_begun, settled_for}
+use Rattle.mill_block.specs.MachineSettings.{machine_begun, nothing_finer, settled_for}
 use Rattle.mill_said.specs.MachineTable.{row_of, tenths_of}
 use Rattle.mill_said.specs.Numbers.{whole_of}
 use Rattle.mill_said.specs.Said.{◌>>=◌}
@@ -136,6 +140,29 @@ rounded-num unit (pos n) =
     rw (positive, halves n (10 ^ places_of unit) (tens unit)) refl
 rounded-num unit (negsuc n) = rw (halves (suc n) (10 ^ places_of unit) (tens unit)) refl
 
+-- and it has nothing finer
+few-digits : (unit : Unit) (z : ℤ) → Within (greatest_of unit) z → FitsNum 18 (units_num unit z)
+few-digits Hundredth z fits = record { mant = omega (arith, fits.within); scale = omega arith }
+few-digits Thousandth z fits = record { mant = omega (arith, fits.within); scale = omega arith }
+
+exact-num : (unit : Unit) (z : ℤ) → Within (greatest_of unit) z → (text_units (per Millimetres unit) (units_num unit z) -ℤ (parts *ℤ z)) ≡ pos 0
+exact-num unit z fits =
+    none (text_units (per Millimetres unit) (units_num unit z)) (parts *ℤ z)
+    (subst (λ (r : ℤ). 2 * nat_abs (text_units (per Millimetres unit) (units_num unit z) -ℤ (parts *ℤ r)) ≤ 0) (rounded-num unit z)
+    (number_near false (per Millimetres unit) (units_num unit z) (few-digits unit z fits) (whole-num unit z)))
+  where
+    none : (a b : ℤ) → 2 * nat_abs (a -ℤ b) ≤ 0 → (a -ℤ b) ≡ pos 0
+    none a b h = omega (arith, ints)
+
+exact-here : (z : ℤ) → (((parts *ℤ z) +ℤ pos 0) -ℤ (parts *ℤ z)) ≡ pos 0
+exact-here z = by (parts *ℤ z)
+  where
+    by : (a : ℤ) → ((a +ℤ pos 0) -ℤ a) ≡ pos 0
+    by a = omega (arith, ints)
+
+finer-by : (x y z : ℤ) → x ≡ pos 0 → y ≡ pos 0 → z ≡ pos 0 → record { x = x; y = y; z = z } ≡ nothing_finer
+finer-by x y z i j k = rw (i, j, k) refl
+
 either : (b : Bool) → (b || true) ≡ true
 either true = refl
 either false = refl
@@ -226,7 +253,7 @@ made-move : (c : Control) (clear : ℤ) (unit : Unit) (here to : Pt3) (kind : Ki
 made-move c clear unit here to kind positioned moves line few = rw (room moves few) refl
 
 acts-move : (c : Control) (clear : ℤ) (unit : Unit) (here : Pt3) (positioned : Bool) (moves line : ℕ) (kind : Kind) (to : Pt3) → IsInUnitRange unit to → moves < MAX_MOVES
-    → acts_by c (running c clear All machine_there unit here (On kind) positioned moves line) (move_told unit kind to) (On kind) None
+    → acts_by c (running c clear All machine_there unit here (On kind) positioned moves line) (move_told unit kind to) (On kind) None None
     ≡ Ok (running c clear All machine_there unit to (On kind) true (moves + 1) line, record { kind = kind; from = here; to = to } ∷ [])
 unfolding move_told machine_there
 acts-move c clear unit here positioned moves line kind to fits few =
@@ -243,8 +270,11 @@ named-move c clear unit here positioned moves line kind to fits few =
     let s : MachineSaid = move_told unit kind to in
     let n : Naming = naming_of p s in
     all-passed (allows (record { across = true; height = Sure }) n) (Err (fault.LateTool line)) (Err (fault.Start line))
-    (acts_by c p s (On kind) None >>= λ done. Ok (with_place (machine_behind p s) done)) (allows-known n.rapid n.x n.y n.z)
-    ∙ ap (λ (d : Done). d >>= λ done. Ok (with_place (machine_behind p s) done)) (acts-move c clear unit here positioned moves line kind to fits few)
+    (acts_by c p s (On kind) None None >>= λ done. Ok (exactly (exact_to p s None) (with_place (machine_behind p s) done))) (allows-known n.rapid n.x n.y n.z)
+    ∙ ap (λ (d : Done). d >>= λ done. Ok (exactly (exact_to p s None) (with_place (machine_behind p s) done))) (acts-move c clear unit here positioned moves line kind to fits few)
+    ∙ ap (λ (f : Finer). Ok (running c clear All (record machine_there { finer = f }) unit to (On kind) true (moves + 1) line, record { kind = kind; from = here; to = to } ∷ []))
+    (finer-by (text_units (per Millimetres unit) (units_num unit to.x) -ℤ (parts *ℤ to.x)) (text_units (per Millimetres unit) (units_num unit to.y) -ℤ (parts *ℤ to.y)) (text_units (per Millimetres unit) (units_num unit to.z) -ℤ (parts *ℤ to.z))
+    (exact-num unit to.x fits.x_ok) (exact-num unit to.y fits.y_ok) (exact-num unit to.z fits.z_ok))
 
 machine-move : (c : Control) (clear : ℤ) (unit : Unit) (here : Pt3) (mode : Mode) (positioned : Bool) (moves line : ℕ) (kind : Kind) (to : Pt3) → IsInUnitRange unit to → moves < MAX_MOVES
     → machine_acted c (running c clear All machine_there unit here mode positioned moves line) (move_told unit kind to)
@@ -281,11 +311,20 @@ unfolding names_by up_told machine_up up_naming behind_up
 named-up c unit p line fits =
     by (int_le p.z (rounded (per Millimetres unit) (units_num unit p.z))) (target_for c (running c p.z Nothing machine_begun unit p (On Rapid) false 0 line) (up_told unit p))
     (ap (λ (z : ℤ). int_le p.z z) (rounded-num unit p.z) ∙ at-itself p.z) (target-up c (running c p.z Nothing machine_begun unit p (On Rapid) false 0 line) machine_begun unit p fits)
+    ∙ ap (λ (f : Finer). Ok (running c p.z Nothing (record machine_up { finer = f }) unit p (On Rapid) true 0 line, []))
+    (finer-by (((parts *ℤ p.x) +ℤ pos 0) -ℤ (parts *ℤ p.x)) (((parts *ℤ p.y) +ℤ pos 0) -ℤ (parts *ℤ p.y)) (text_units (per Millimetres unit) (units_num unit p.z) -ℤ (parts *ℤ p.z))
+    (exact-here p.x) (exact-here p.y) (exact-num unit p.z fits.z_ok))
   where
+    up : Pt3
+    up = record { x = (parts *ℤ p.x) +ℤ pos 0; y = (parts *ℤ p.y) +ℤ pos 0; z = text_units (per Millimetres unit) (units_num unit p.z) }
+
+    behind-it : Machine
+    behind-it = record machine_up { finer = record { x = up.x -ℤ (parts *ℤ p.x); y = up.y -ℤ (parts *ℤ p.y); z = up.z -ℤ (parts *ℤ p.z) } }
+
     by : (over : Bool) (t : Result Pt3 NgcFault) → over ≡ true → t ≡ Ok p
         → (if not (allows nowhere (up_naming over)) then Err (fault.Start line) else
-        ((t >>= λ to. gone_to Nothing (running c p.z Nothing machine_begun unit p (On Rapid) false 0 line) Rapid false to) >>= λ done. Ok (with_place (behind_up over) done)))
-        ≡ Ok (running c p.z Nothing machine_up unit p (On Rapid) true 0 line, [])
+        ((t >>= λ to. gone_to Nothing (running c p.z Nothing machine_begun unit p (On Rapid) false 0 line) Rapid false to) >>= λ done. Ok (exactly up (with_place (behind_up over) done))))
+        ≡ Ok (running c p.z Nothing behind-it unit p (On Rapid) true 0 line, [])
     by over t is leads = rw (is, leads) refl
 
 machine-up : (c : Control) (unit : Unit) (p : Pt3) (line : ℕ) → IsInUnitRange unit p
@@ -309,7 +348,10 @@ named-across : (c : Control) (unit : Unit) (p : Pt3) (line : ℕ) → IsInUnitRa
 unfolding names_by across_told machine_up machine_there
 named-across c unit p line fits =
     let at : Progress = running c p.z Nothing machine_up unit p (On Rapid) true 0 line in
-    ap (λ (t : Result Pt3 NgcFault). (t >>= λ to. gone_to Nothing at Rapid true to) >>= λ done. Ok (with_place (machine_behind at (across_told unit p)) done)) (target-across c at machine_up unit p fits)
+    ap (λ (t : Result Pt3 NgcFault). (t >>= λ to. gone_to Nothing at Rapid true to) >>= λ done. Ok (exactly (exact_to at (across_told unit p) None) (with_place (machine_behind at (across_told unit p)) done))) (target-across c at machine_up unit p fits)
+    ∙ ap (λ (f : Finer). Ok (running c p.z All (record machine_there { finer = f }) unit p (On Rapid) true 2 line, head_moves (Some p)))
+    (finer-by (text_units (per Millimetres unit) (units_num unit p.x) -ℤ (parts *ℤ p.x)) (text_units (per Millimetres unit) (units_num unit p.y) -ℤ (parts *ℤ p.y)) (((parts *ℤ p.z) +ℤ pos 0) -ℤ (parts *ℤ p.z))
+    (exact-num unit p.x fits.x_ok) (exact-num unit p.y fits.y_ok) (exact-here p.z))
 
 machine-across : (c : Control) (unit : Unit) (p : Pt3) (line : ℕ) → IsInUnitRange unit p
     → machine_acted c (running c p.z Nothing machine_up unit p (On Rapid) true 0 line) (across_told unit p) ≡ Ok (running c p.z All machine_there unit p (On Rapid) true 2 line, head_moves (Some p))
@@ -352,7 +394,7 @@ running_line-across c unit p number line fits is_line =
 
 running-end : (c : Control) (clear : ℤ) (unit : Unit) (here : Pt3) (mode : Mode) (count number : ℕ) (done : List Move)
     → moves_from (running c clear All machine_there unit here mode true count number) done end_lines ≡ Ok (done ++ [])
-unfolding moves_from after_line after_words line_of read_marks marks_from grown_word finished started told_from told_row row_of tenths_of whole_of machine_acted settled_for
+unfolding moves_from after_line after_words line_of read_marks marks_from grown_word finished started told_from told_row row_of tenths_of whole_of machine_acted settled_for machine_there
 running-end c clear unit here mode count number done = refl
 
 running-move : (c : Control) (clear : ℤ) (unit : Unit) (m : Move) (here : Pt3) (mode : Mode) (count number : ℕ) (done : List Move) (line : List ℕ) (lines : List (List ℕ))

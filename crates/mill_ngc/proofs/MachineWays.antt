@@ -1,7 +1,7 @@
 -- The moves of a line for a machine go on from where the tool was.
 use Rattle.std.proofs.Common.{◌≡◌, ℕ, zero, suc, List, [], ◌∷◌, Bool, true, false, Option, Some, None, Result, Ok, Err, refl, sym, subst, ◌∙◌, arith, inl, inr}
 use Rattle.std.proofs.lemmas.Int.{ints}
-use Rattle.std.specs.Prelude.{⊤, ℤ, ◌+◌, ◌≤ℤ◌, ◌⊎◌, ◌≢◌, ◌&&◌, int_lt, cond, length, nat_le, nat_lt, not, is_some, replicate, if◌then◌else◌}
+use Rattle.std.specs.Prelude.{⊤, ℤ, ◌+◌, ◌≤ℤ◌, ◌⊎◌, ◌≢◌, ◌&&◌, ◌||◌, pos, int_le, int_lt, cond, length, nat_le, nat_lt, not, is_some, replicate, if◌then◌else◌}
 use Rattle.mill_base.specs.Motion.{Follow}
 use Rattle.mill_base.specs.Numbers.{greater}
 use Rattle.mill_base.specs.declared.limits.TheConstants.{MAX_MOVES}
@@ -20,8 +20,10 @@ use Rattle.mill_control.specs.declared.series.Series.{Series}
 use Rattle.mill_block.proofs.NamingLemmas.{drills_known, named_rises}
 use Rattle.mill_block.specs.Drives.{driven_or_fault}
 use Rattle.mill_block.specs.Kept.{begins}
-use Rattle.mill_block.specs.MachineLines.{Done, acts_by, arrived, axis_done, coordinate_for, drilled, drills_hole, gone_to, gone_up, hole_for, hole_of, idles, is_idle, is_safe, machine_acted, machine_behind, machine_done, names_by, names_height, naming_of, park, parks, peck_fits, place_of, rise, rounded_or, series_for, stands, still_at, target_for, up_fits, waits, went, with_place, with_stop}
-use Rattle.mill_said.specs.MachineSaid.{names_axis}
+use Rattle.mill_block.specs.MachineLines.{Done, acts, acts_by, arrived, axis_done, coordinate_for, drilled, drills_hole, exact_to, exactly, gone_to, gone_up, hole_for, hole_of, idles, is_drillable, is_idle, is_safe, machine_acted, machine_behind, machine_done, names_by, names_height, naming_of, park, parks, peck_fits, place_of, points_of, rise, rounded_or, series_for, stands, still_at, target_for, turned, up_fits, waits, went, went_round, with_place, with_stop}
+use Rattle.mill_block.specs.MachineArcs.{fed, sweep_of, words_fit}
+use Rattle.mill_block.specs.TextPlaces.{exact_here, text_above}
+use Rattle.mill_control.specs.declared.turn.Turn.{Turn}
 use Rattle.mill_block.specs.MachineSettings.{has_lengths, per_of, settled_for}
 use Rattle.mill_block.specs.Motion.{known_of, made_move}
 use Rattle.mill_said.specs.Said.{◌>>=◌}
@@ -53,9 +55,10 @@ goes_stopped : (k : Known) (here : Pt3) (clear : ℤ) (rules : Rules) (stops : B
 goes_stopped k here clear rules true q ms goes = record { follow = goes.follow; end = goes.end; known = goes.known; none = goes.none; rises = goes.rises; clear_is = goes.clear_is; rules_are = goes.rules_are }
 goes_stopped k here clear rules false q ms goes = goes
 
-goes_placed : (k : Known) (here : Pt3) (clear : ℤ) (rules : Rules) (f : Machine → Machine) (q : Progress) (ms : List Move) → GoesOn k here clear rules q ms
-    → GoesOn k here clear rules (with_place f (q, ms)).0 (with_place f (q, ms)).1
-goes_placed k here clear rules f q ms goes = record { follow = goes.follow; end = goes.end; known = goes.known; none = goes.none; rises = goes.rises; clear_is = goes.clear_is; rules_are = goes.rules_are }
+-- nor does where the text's own numbers lead
+goes_exact : (k : Known) (here : Pt3) (clear : ℤ) (rules : Rules) (t : Pt3) (f : Machine → Machine) (q : Progress) (ms : List Move) → GoesOn k here clear rules q ms
+    → GoesOn k here clear rules (exactly t (with_place f (q, ms))).0 (exactly t (with_place f (q, ms))).1
+goes_exact k here clear rules t f q ms goes = record { follow = goes.follow; end = goes.end; known = goes.known; none = goes.none; rises = goes.rises; clear_is = goes.clear_is; rules_are = goes.rules_are }
 
 -- ---- the first whole place
 
@@ -117,8 +120,8 @@ over-greater a b = by (int_lt a b) refl
 
 goes_rise : (p : Progress) → Goes (known_of p) p.here p.clear p.rules (rise p)
 goes_rise p =
-    goes_after (known_of p) p.here p.clear p.rules (gone_to (known_of p) p Rapid false (record { x = p.here.x; y = p.here.y; z = greater p.here.z p.clear })) (with_place (λ m. record m { place = raised m.place }))
-    (goes_placed (known_of p) p.here p.clear p.rules (λ m. record m { place = raised m.place }))
+    goes_after (known_of p) p.here p.clear p.rules (gone_to (known_of p) p Rapid false (record { x = p.here.x; y = p.here.y; z = greater p.here.z p.clear })) (λ done. exactly (text_above p (exact_here p)) (with_place (λ m. record m { place = raised m.place }) done))
+    (goes_exact (known_of p) p.here p.clear p.rules (text_above p (exact_here p)) (λ m. record m { place = raised m.place }))
     (goes_to (known_of p) p Rapid false (record { x = p.here.x; y = p.here.y; z = greater p.here.z p.clear }) refl (inr (inl (over-greater p.here.z p.clear))))
 
 goes_up : (p : Progress) (s : MachineSaid) (u : Up) → Goes (known_of p) p.here p.clear p.rules (gone_up p s u)
@@ -171,10 +174,40 @@ goes_hole : (c : Control) (p : Progress) (s : MachineSaid) (cycle : Cycle) → k
 unfolding drills_hole
 goes_hole c p s cycle known =
     let v : Series = series_for p s cycle in
-    goes_if All p.here p.clear p.rules (not (may_drill (series_for p s cycle) p.machine.returns (per_of p) p.here (rounded_or p p.here.x s.x) (rounded_or p p.here.y s.y))) (Err (fault.Cycle p.line))
+    goes_if All p.here p.clear p.rules (not (is_drillable p s (series_for p s cycle))) (Err (fault.Cycle p.line))
     (hole_for c p s (series_for p s cycle) >>= λ h. drilled p (series_for p s cycle) h) tt
     (goes_with All p.here p.clear p.rules (hole_for c p s (series_for p s cycle)) (λ h. drilled p (series_for p s cycle) h)
     (λ h is. goes_drilled p (series_for p s cycle) h known (hole-from c p s (series_for p s cycle) h is)))
+
+-- ---- an arc
+
+fed_follows : (p : Pt3) (points : List Pt3) → Follow p (fed p points)
+fed_follows p [] = tt
+fed_follows p (q ∷ points) = (refl, fed_follows q points)
+
+goes_round : (p : Progress) (points : List Pt3) → known_of p ≡ All → Goes All p.here p.clear p.rules (went_round p points)
+goes_round p points known =
+    goes_if All p.here p.clear p.rules (nat_lt MAX_MOVES (p.moves + length points)) (Err (fault.TooManyMoves p.line))
+    (Ok (record p { here = ends_at p.here (fed p.here points); positioned = true; moves = p.moves + length points }, fed p.here points)) tt
+    (record {
+      follow = fed_follows p.here points;
+      end = refl;
+      known = λ e. known;
+      none = inl known;
+      rises = inl refl;
+      clear_is = refl;
+      rules_are = refl;
+    })
+
+goes_turned : (c : Control) (p : Progress) (s : MachineSaid) (turn : Turn) → known_of p ≡ All → Goes All p.here p.clear p.rules (turned c p s turn)
+unfolding turned
+goes_turned c p s turn known =
+    let way : Done = target_for c p s >>= λ to. points_of p (sweep_of c p s turn) >>= λ points. went_round p points in
+    let fits : Done = if not (words_fit c p s) then Err (fault.Arc p.line) else way in
+    goes_if All p.here p.clear p.rules (int_le (pos 0) c.arc_room && p.machine.wide_path) (Err (fault.PathControl p.line)) fits tt
+    (goes_if All p.here p.clear p.rules (not (words_fit c p s)) (Err (fault.Arc p.line)) way tt
+    (goes_then All p.here p.clear p.rules (target_for c p s) (λ to. points_of p (sweep_of c p s turn) >>= λ points. went_round p points)
+    (λ to. goes_then All p.here p.clear p.rules (points_of p (sweep_of c p s turn)) (λ points. went_round p points) (λ points. goes_round p points known))))
 
 -- ---- a line that names coordinates
 
@@ -183,32 +216,37 @@ goes_went c p s kind may =
     goes_with (known_of p) p.here p.clear p.rules (target_for c p s) (λ to. gone_to (known_of p) p kind (parks s) to)
     (λ to leads. goes_to (known_of p) p kind (parks s) to refl (named_rises c p s to may leads))
 
-goes_mode : (c : Control) (p : Progress) (s : MachineSaid) (mode : Mode) (cycle : Option Cycle) → p.machine.cycle ≡ cycle → allows (place_of p) (naming_of p s) ≡ true
-    → Goes (known_of p) p.here p.clear p.rules (acts_by c p s mode cycle)
-goes_mode c p s mode (Some cycle) is may =
-    let drills : is_some p.machine.cycle ≡ true = rw is refl in
+goes_mode : (c : Control) (p : Progress) (s : MachineSaid) (mode : Mode) (cycle : Option Cycle) (turn : Option Turn) → p.machine.cycle ≡ cycle → p.machine.turn ≡ turn → allows (place_of p) (naming_of p s) ≡ true
+    → Goes (known_of p) p.here p.clear p.rules (acts_by c p s mode cycle turn)
+goes_mode c p s mode (Some cycle) turn is round may =
+    let drills : (is_some p.machine.cycle || is_some p.machine.turn) ≡ true = rw is refl in
     let known : known_of p ≡ All = drills_known p s drills may in
     goes_then (known_of p) p.here p.clear p.rules (driven_or_fault p.rules.needs_spindle Feed p.drive p.line) (λ _. drills_hole c p s cycle)
     (λ _. subst (λ (k : Known). Goes k p.here p.clear p.rules (drills_hole c p s cycle)) (sym known) (goes_hole c p s cycle known))
-goes_mode c p s Off None is may = tt
-goes_mode c p s (On kind) None is may =
+goes_mode c p s mode None (Some turn) is round may =
+    let turns : (is_some p.machine.cycle || is_some p.machine.turn) ≡ true = rw (is, round) refl in
+    let known : known_of p ≡ All = drills_known p s turns may in
+    goes_then (known_of p) p.here p.clear p.rules (driven_or_fault p.rules.needs_spindle Feed p.drive p.line) (λ _. turned c p s turn)
+    (λ _. subst (λ (k : Known). Goes k p.here p.clear p.rules (turned c p s turn)) (sym known) (goes_turned c p s turn known))
+goes_mode c p s Off None None is round may = tt
+goes_mode c p s (On kind) None None is round may =
     goes_then (known_of p) p.here p.clear p.rules (driven_or_fault p.rules.needs_spindle kind p.drive p.line) (λ _. went c p s kind) (λ _. goes_went c p s kind may)
 
 goes_names : (c : Control) (p : Progress) (s : MachineSaid) → Goes (known_of p) p.here p.clear p.rules (names_by c p s)
 unfolding names_by
 goes_names c p s =
-    let way : Done = acts_by c p s p.mode p.machine.cycle >>= λ done. Ok (with_place (machine_behind p s) done) in
+    let way : Done = acts_by c p s p.mode p.machine.cycle p.machine.turn >>= λ done. Ok (exactly (exact_to p s p.machine.cycle) (with_place (machine_behind p s) done)) in
     let measured : Done = if not p.absolute then Err (fault.NoAbsolute p.line) else way in
     let told : Done = if not (has_lengths p) then Err (fault.NoUnits p.line) else measured in
-    let offset : Done = if not (may_name p.machine.named p.machine.offsets (names_height s) (parks s)) then Err (fault.LateOffset p.line) else told in
+    let offset : Done = if not (may_name p.machine.named p.machine.offsets (names_height p.machine.cycle s) (parks s)) then Err (fault.LateOffset p.line) else told in
     let placed : Done = if not (allows (place_of p) (naming_of p s)) then Err (fault.Start p.line) else offset in
     goes_if (known_of p) p.here p.clear p.rules p.machine.late (Err (fault.LateTool p.line)) placed tt
     (goes_unless (known_of p) p.here p.clear p.rules (allows (place_of p) (naming_of p s)) (Err (fault.Start p.line)) offset tt
-    (λ may. goes_if (known_of p) p.here p.clear p.rules (not (may_name p.machine.named p.machine.offsets (names_height s) (parks s))) (Err (fault.LateOffset p.line)) told tt
+    (λ may. goes_if (known_of p) p.here p.clear p.rules (not (may_name p.machine.named p.machine.offsets (names_height p.machine.cycle s) (parks s))) (Err (fault.LateOffset p.line)) told tt
     (goes_if (known_of p) p.here p.clear p.rules (not (has_lengths p)) (Err (fault.NoUnits p.line)) measured tt
     (goes_if (known_of p) p.here p.clear p.rules (not p.absolute) (Err (fault.NoAbsolute p.line)) way tt
-    (goes_after (known_of p) p.here p.clear p.rules (acts_by c p s p.mode p.machine.cycle) (with_place (machine_behind p s)) (goes_placed (known_of p) p.here p.clear p.rules (machine_behind p s))
-    (goes_mode c p s p.mode p.machine.cycle refl may))))))
+    (goes_after (known_of p) p.here p.clear p.rules (acts_by c p s p.mode p.machine.cycle p.machine.turn) (λ done. exactly (exact_to p s p.machine.cycle) (with_place (machine_behind p s) done))
+    (goes_exact (known_of p) p.here p.clear p.rules (exact_to p s p.machine.cycle) (machine_behind p s)) (goes_mode c p s p.mode p.machine.cycle p.machine.turn refl refl may))))))
 
 -- ---- the whole
 
@@ -224,7 +262,7 @@ goes_axis c p s None = goes_names c p s
 goes_axis c p s (Some u) = goes_up p s u
 
 goes_done : (c : Control) (p : Progress) (s : MachineSaid) → Goes (known_of p) p.here p.clear p.rules (machine_done c p s)
-goes_done c p s = goes_if (known_of p) p.here p.clear p.rules (names_axis s) (axis_done c p s s.up) (stands p s s.up) (goes_axis c p s s.up) (goes_stands p s s.up)
+goes_done c p s = goes_if (known_of p) p.here p.clear p.rules (acts p s) (axis_done c p s s.up) (stands p s s.up) (goes_axis c p s s.up) (goes_stands p s s.up)
 
 pub goes_machine : (c : Control) (p : Progress) (s : MachineSaid) → Goes (known_of p) p.here p.clear p.rules (machine_acted c p s)
 unfolding machine_acted settled_for

@@ -2,20 +2,19 @@
 use Rattle.std.proofs.Common.{◌≡◌, ◌^◌, ℕ, Bool, true, false, List, [], ◌∷◌, ◌++◌, Result, Ok, Err, refl, ap, subst, ◌∙◌, inl, inr}
 use Rattle.std.proofs.lemmas.List.Elements.{All-append, All-nil, All-same, Contains-append_left, Contains-append_right}
 use Rattle.std.specs.Prelude.{ℤ, All, Contains, if◌then◌else◌}
-use Rattle.mill_base.specs.Rounded.{IsRounded}
 use Rattle.mill_base.specs.declared.motion.Move.{Move}
 use Rattle.mill_base.specs.declared.points.Pt3.{Pt3}
 use Rattle.mill_base.specs.declared.unit.Unit.{Unit}
 use Rattle.mill_control.specs.Places.{nowhere}
 use Rattle.mill_control.specs.declared.place.Height.TheVariants.{Known as KnownHeight}
 use Rattle.mill_block.proofs.RealLines.{line_is_foreseen}
-use Rattle.mill_block.proofs.TextKept.{text_line_is}
-use Rattle.mill_block.proofs.TextLemmas.{near_whole}
+use Rattle.mill_block.proofs.TextKept.{start_exact, start_fits, text_line_is}
 use Rattle.mill_block.specs.Lines.{after_line, start_at}
 use Rattle.mill_block.specs.MachineLines.{place_in}
 use Rattle.mill_block.specs.Motion.{known_of}
 use Rattle.mill_block.specs.RealWays.{IsForeseen, IsHeight, MayBeAt, MayGo}
 use Rattle.mill_block.specs.TextPaths.{FitsText, Way, text_line}
+use Rattle.mill_block.specs.TextPlaces.{exact_here}
 use Rattle.mill_said.specs.declared.fault.NgcFault.{NgcFault}
 use Rattle.mill_block.specs.declared.progress.Known.{Known}
 use Rattle.mill_block.specs.declared.progress.Known.TheVariants.{Nothing, Height, All as Whole}
@@ -80,7 +79,7 @@ foreseen-behind rounds clear true told next ways made goes run more = nothing-ma
 foreseen-behind rounds clear false (Err f) next ways made goes run more = nothing-made rounds clear ways made run
 foreseen-behind rounds clear false (Ok s) next ways made goes run more = more s refl run
 
-foreseen-from : (c : Control) (p : Progress) (at r : Pt3) (ways made : List Move) (lines : List (List ℕ)) → p.rules.words ≡ Machine c → FitsText c p → IsRounded c.rounds (10 ^ 18) at p.here
+foreseen-from : (c : Control) (p : Progress) (at r : Pt3) (ways made : List Move) (lines : List (List ℕ)) → p.rules.words ≡ Machine c → FitsText c p → at ≡ exact_here p
     → MayBeAt c p at r → MayRun c p at r lines made → All (IsForeseen c.rounds p.clear (ways_from c p at ways lines)) made
 unfolding MayRun ways_from Among
 foreseen-from c p at r ways made [] words fits near may run = nothing-made c.rounds p.clear ways made run
@@ -93,7 +92,7 @@ foreseen-from c p at r ways made (line ∷ lines) words fits near may run =
     let rest : List Move = goes.1 in
     let behind = goes-on p line s is in
     let there = text_line_is c p at line s words fits near is in
-    let here = line_is_foreseen c p at r line s first words near may goes.2 is in
+    let here = line_is_foreseen c p at r line s first words fits near may goes.2 is in
     let rest_too : All (IsForeseen c.rounds s.0.clear (next s)) rest =
     foreseen-from c s.0 text.0 first.0 (ways ++ text.1) rest lines (ap (λ (t : Rules). t.words) behind.rules_are ∙ words) there.1 there.0.here here.0 goes.4 in
     All-same (IsForeseen c.rounds p.clear (next s)) made (first.1 ++ rest) goes.3
@@ -123,6 +122,5 @@ begun-anywhere c start r unit rules = record { across = λ e. absurd (far (known
 pub program_is_foreseen : ProgramIsForeseen
 unfolding ways_of
 program_is_foreseen c start unit rules text made words fits may =
-    foreseen-from c (start_at start unit rules) (in_parts start) may.0 [] made (lines_of text) words (record { fits = record { clear_fits = fits.z_ok; series_fits = tt }; peck_fits = tt })
-    (record { x_near = near_whole c.rounds (10 ^ 18) start.x; y_near = near_whole c.rounds (10 ^ 18) start.y; z_near = near_whole c.rounds (10 ^ 18) start.z })
+    foreseen-from c (start_at start unit rules) (in_parts start) may.0 [] made (lines_of text) words (start_fits c start unit rules fits.z_ok) (start_exact start unit rules)
     (begun-anywhere c start may.0 unit rules) may.1

@@ -1,16 +1,16 @@
 -- The moves of a program for a machine are the ways of its own numbers, rounded, or exactly these where nothing is rounded, line by line.
 use Rattle.std.proofs.Common.{◌≡◌, ◌^◌, ℕ, Bool, true, false, List, [], ◌∷◌, ◌++◌, Result, Ok, Err, refl, ap, subst, ◌∙◌}
 use Rattle.std.specs.Prelude.{⊤, if◌then◌else◌}
-use Rattle.mill_base.specs.Rounded.{AreRounded, IsRounded}
+use Rattle.mill_base.specs.Rounded.{AreRounded}
 use Rattle.mill_base.specs.declared.motion.Move.{Move}
 use Rattle.mill_base.specs.declared.points.Pt3.{Pt3}
 use Rattle.mill_block.proofs.TextHoles.{near-append}
-use Rattle.mill_block.proofs.TextKept.{text_line_is}
-use Rattle.mill_block.proofs.TextLemmas.{near_whole}
+use Rattle.mill_block.proofs.TextKept.{start_exact, start_fits, text_line_is}
 use Rattle.mill_block.specs.Lines.{after_line, start_at}
 use Rattle.mill_block.specs.Motion.{known_of}
 use Rattle.mill_said.specs.Said.{◌>>=◌}
 use Rattle.mill_block.specs.TextPaths.{FitsText, text_line}
+use Rattle.mill_block.specs.TextPlaces.{exact_here}
 use Rattle.mill_said.specs.declared.fault.NgcFault.{NgcFault}
 use Rattle.mill_said.specs.declared.fault.NgcFault.TheVariants as fault
 use Rattle.mill_block.specs.declared.progress.Progress.{Progress}
@@ -51,7 +51,7 @@ rounds-end rounds p ways moves rounded = by p.ended
     by true = rounded
     by false = tt
 
-rounds-from : (c : Control) (p : Progress) (at : Pt3) (ways moves : List Move) (lines : List (List ℕ)) → p.rules.words ≡ Machine c → FitsText c p → IsRounded c.rounds (10 ^ 18) at p.here → AreRounded c.rounds (10 ^ 18) ways moves
+rounds-from : (c : Control) (p : Progress) (at : Pt3) (ways moves : List Move) (lines : List (List ℕ)) → p.rules.words ≡ Machine c → FitsText c p → at ≡ exact_here p → AreRounded c.rounds (10 ^ 18) ways moves
     → Rounds c.rounds (ways_from c p at ways lines) (moves_from p moves lines)
 unfolding ways_from moves_from Rounds
 rounds-from c p at ways moves [] words fits here rounded = rounds-end c.rounds p ways moves rounded
@@ -67,5 +67,4 @@ pub program_is_rounded : ProgramIsRounded
 unfolding ways_of program_of Rounds
 program_is_rounded c start unit rules text moves words fits is =
     subst (λ (r : Result (List Move) NgcFault). Rounds c.rounds (ways_of c start unit rules text) r) is
-    (rounds-from c (start_at start unit rules) (in_parts start) [] [] (lines_of text) words (record { fits = record { clear_fits = fits.z_ok; series_fits = tt }; peck_fits = tt })
-    (record { x_near = near_whole c.rounds (10 ^ 18) start.x; y_near = near_whole c.rounds (10 ^ 18) start.y; z_near = near_whole c.rounds (10 ^ 18) start.z }) tt)
+    (rounds-from c (start_at start unit rules) (in_parts start) [] [] (lines_of text) words (start_fits c start unit rules fits.z_ok) (start_exact start unit rules) tt)

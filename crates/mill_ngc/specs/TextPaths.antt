@@ -6,7 +6,8 @@ use Rattle.mill_base.specs.declared.motion.Move.{Move}
 use Rattle.mill_base.specs.declared.points.Pt3.{Pt3}
 use Rattle.mill_base.specs.declared.unit.Unit.{Unit}
 use Rattle.mill_block.specs.Lines.{after_line, start_at}
-use Rattle.mill_block.specs.TextPaths.{parts, text_line}
+use Rattle.mill_block.specs.TextPaths.{text_line}
+use Rattle.mill_control.specs.Unrounded.{parts}
 use Rattle.mill_said.specs.declared.fault.NgcFault.{NgcFault}
 use Rattle.mill_block.specs.declared.progress.Progress.{Progress}
 use Rattle.mill_said.specs.declared.rules.Control.{Control}

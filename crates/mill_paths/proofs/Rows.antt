@@ -16,7 +16,7 @@ use Rattle.mill_paths.specs.Limits.{change_count}
 use Rattle.mill_paths.specs.Visits.{layer_heights, rough_visits_of, finish_visits_of}
 
 abbrev plate : ℤ → ℤ → JobFields
-plate layer lift = record { unit = Hundredth; cutter = Flat (pos 150); floor = pos 0; top = pos 300; clear = pos 400; area = record { x0 = pos 0; y0 = pos 0; x1 = pos 200; y1 = pos 200 }; home = record { x = pos 100; y = pos 100 }; pitch = pos 100; sample = pos 50; allowance = pos 0; band = pos 0; lift = lift; raster = pos 100; rough_raster = pos 100; layer = layer; rough_stock = pos 0; levels = []; snap = Nearest; max_cut = pos 0; holder = None; path_tol = None; slack = pos 0; overcut = pos 0; graze = None; keep_out = []; rapids = Straight; start = Home; spindle = false; words = Strict; peck_clearance = None; lengths = Table }
+plate layer lift = record { unit = Hundredth; cutter = Flat (pos 150); floor = pos 0; top = pos 300; clear = pos 400; area = record { x0 = pos 0; y0 = pos 0; x1 = pos 200; y1 = pos 200 }; home = record { x = pos 100; y = pos 100 }; pitch = pos 100; sample = pos 50; allowance = pos 0; band = pos 0; lift = lift; raster = pos 100; rough_raster = pos 100; layer = layer; rough_stock = pos 0; levels = []; snap = Nearest; max_cut = pos 0; holder = None; path_tol = None; slack = pos 0; overcut = pos 0; graze = None; keep_out = []; rapids = Straight; start = Home; spindle = false; words = Strict; peck_clearance = None; lengths = Table; arc_tol = None }
 
 abbrev flat_at : ℤ → List ℤ
 flat_at z = replicate 9 z

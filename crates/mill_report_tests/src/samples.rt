@@ -65,6 +65,7 @@ pub(crate) fn block_job(max_cut: u8, holder: Option<Solid>) -> Job
         words: Words::Strict,
         peck_clearance: None,
         lengths: ToolLengths::Table,
+        arc_tol: None,
     })
 }
 

@@ -70,6 +70,7 @@ sample_job n = record {
   words = Strict;
   peck_clearance = None;
   lengths = Table;
+  arc_tol = None;
 }
 
 -- ---- both

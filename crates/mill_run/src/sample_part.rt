@@ -75,6 +75,7 @@ fn sample_fields(size: u32) -> JobFields
         words: Words::Strict,
         peck_clearance: None,
         lengths: ToolLengths::Table,
+        arc_tol: None,
     }
 }
 

@@ -5,7 +5,7 @@ use Rattle.std.proofs.lemmas.List.Folds.{list_any_more}
 use Rattle.mill_words.specs.declared.word.Word.{Word}
 use Rattle.mill_said.specs.declared.machine_table.Meaning.{Meaning}
 use Rattle.mill_said.specs.MachineTable.{row_of}
-use Rattle.mill_said.specs.MachineTakes.{has_word, is_drill, is_dwell, is_inches, is_length, is_millimetres, is_motion, is_rest, is_tolerance, meaning_of}
+use Rattle.mill_said.specs.MachineTakes.{has_word, is_drill, is_dwell, is_inches, is_length, is_millimetres, is_motion, is_rest, is_tolerance, is_turn, meaning_of}
 use Rattle.mill_said.specs.inner.SeenWords.{seen_in, seen_with}
 
 -- one word more
@@ -24,6 +24,7 @@ seen_more words i d lt =
       has_more is_motion words i d lt,
       has_more is_drill words i d lt,
       has_more is_dwell words i d lt,
+      has_more is_turn words i d lt,
       has_more is_inches words i d lt,
       has_more is_millimetres words i d lt,
     ) refl

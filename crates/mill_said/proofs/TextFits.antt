@@ -24,35 +24,41 @@ use Rattle.mill_said.specs.Bounds.{FitsTold}
 -- ---- what a line tells
 
 with-fits : (s : MachineSaid) (m : Meaning) (group : ℕ) (n : Num) → FitsTold s → FitsNum 18 n → FitsTold (told s (record { group = group; meaning = m }) n)
-with-fits s meaning.X group n fits num = record { x_fits = num; y_fits = fits.y_fits; z_fits = fits.z_fits; r_fits = fits.r_fits; q_fits = fits.q_fits; h_fits = fits.h_fits }
-with-fits s meaning.Y group n fits num = record { x_fits = fits.x_fits; y_fits = num; z_fits = fits.z_fits; r_fits = fits.r_fits; q_fits = fits.q_fits; h_fits = fits.h_fits }
-with-fits s meaning.Z group n fits num = record { x_fits = fits.x_fits; y_fits = fits.y_fits; z_fits = num; r_fits = fits.r_fits; q_fits = fits.q_fits; h_fits = fits.h_fits }
-with-fits s meaning.R group n fits num = record { x_fits = fits.x_fits; y_fits = fits.y_fits; z_fits = fits.z_fits; r_fits = num; q_fits = fits.q_fits; h_fits = fits.h_fits }
-with-fits s meaning.Q group n fits num = record { x_fits = fits.x_fits; y_fits = fits.y_fits; z_fits = fits.z_fits; r_fits = fits.r_fits; q_fits = num; h_fits = fits.h_fits }
-with-fits s meaning.H group n fits num = record { x_fits = fits.x_fits; y_fits = fits.y_fits; z_fits = fits.z_fits; r_fits = fits.r_fits; q_fits = fits.q_fits; h_fits = num }
-with-fits s meaning.Nothing group n fits num = record { x_fits = fits.x_fits; y_fits = fits.y_fits; z_fits = fits.z_fits; r_fits = fits.r_fits; q_fits = fits.q_fits; h_fits = fits.h_fits }
-with-fits s (meaning.Straight kind) group n fits num = record { x_fits = fits.x_fits; y_fits = fits.y_fits; z_fits = fits.z_fits; r_fits = fits.r_fits; q_fits = fits.q_fits; h_fits = fits.h_fits }
-with-fits s meaning.Still group n fits num = record { x_fits = fits.x_fits; y_fits = fits.y_fits; z_fits = fits.z_fits; r_fits = fits.r_fits; q_fits = fits.q_fits; h_fits = fits.h_fits }
-with-fits s (meaning.Drill c) group n fits num = record { x_fits = fits.x_fits; y_fits = fits.y_fits; z_fits = fits.z_fits; r_fits = fits.r_fits; q_fits = fits.q_fits; h_fits = fits.h_fits }
-with-fits s (meaning.Absolute absolute) group n fits num = record { x_fits = fits.x_fits; y_fits = fits.y_fits; z_fits = fits.z_fits; r_fits = fits.r_fits; q_fits = fits.q_fits; h_fits = fits.h_fits }
-with-fits s (meaning.Lengths lengths) group n fits num = record { x_fits = fits.x_fits; y_fits = fits.y_fits; z_fits = fits.z_fits; r_fits = fits.r_fits; q_fits = fits.q_fits; h_fits = fits.h_fits }
-with-fits s (meaning.Length on) group n fits num = record { x_fits = fits.x_fits; y_fits = fits.y_fits; z_fits = fits.z_fits; r_fits = fits.r_fits; q_fits = fits.q_fits; h_fits = fits.h_fits }
-with-fits s (meaning.Zero zero) group n fits num = record { x_fits = fits.x_fits; y_fits = fits.y_fits; z_fits = fits.z_fits; r_fits = fits.r_fits; q_fits = fits.q_fits; h_fits = fits.h_fits }
-with-fits s (meaning.Returns returns) group n fits num = record { x_fits = fits.x_fits; y_fits = fits.y_fits; z_fits = fits.z_fits; r_fits = fits.r_fits; q_fits = fits.q_fits; h_fits = fits.h_fits }
-with-fits s meaning.Tolerance group n fits num = record { x_fits = fits.x_fits; y_fits = fits.y_fits; z_fits = fits.z_fits; r_fits = fits.r_fits; q_fits = fits.q_fits; h_fits = fits.h_fits }
-with-fits s meaning.Cancel group n fits num = record { x_fits = fits.x_fits; y_fits = fits.y_fits; z_fits = fits.z_fits; r_fits = fits.r_fits; q_fits = fits.q_fits; h_fits = fits.h_fits }
-with-fits s meaning.Rest group n fits num = record { x_fits = fits.x_fits; y_fits = fits.y_fits; z_fits = fits.z_fits; r_fits = fits.r_fits; q_fits = fits.q_fits; h_fits = fits.h_fits }
-with-fits s meaning.Home group n fits num = record { x_fits = fits.x_fits; y_fits = fits.y_fits; z_fits = fits.z_fits; r_fits = fits.r_fits; q_fits = fits.q_fits; h_fits = fits.h_fits }
-with-fits s meaning.MachinePlace group n fits num = record { x_fits = fits.x_fits; y_fits = fits.y_fits; z_fits = fits.z_fits; r_fits = fits.r_fits; q_fits = fits.q_fits; h_fits = fits.h_fits }
-with-fits s meaning.Stop group n fits num = record { x_fits = fits.x_fits; y_fits = fits.y_fits; z_fits = fits.z_fits; r_fits = fits.r_fits; q_fits = fits.q_fits; h_fits = fits.h_fits }
-with-fits s meaning.End group n fits num = record { x_fits = fits.x_fits; y_fits = fits.y_fits; z_fits = fits.z_fits; r_fits = fits.r_fits; q_fits = fits.q_fits; h_fits = fits.h_fits }
-with-fits s meaning.Change group n fits num = record { x_fits = fits.x_fits; y_fits = fits.y_fits; z_fits = fits.z_fits; r_fits = fits.r_fits; q_fits = fits.q_fits; h_fits = fits.h_fits }
-with-fits s (meaning.Spindle turns) group n fits num = record { x_fits = fits.x_fits; y_fits = fits.y_fits; z_fits = fits.z_fits; r_fits = fits.r_fits; q_fits = fits.q_fits; h_fits = fits.h_fits }
-with-fits s meaning.Tool group n fits num = record { x_fits = fits.x_fits; y_fits = fits.y_fits; z_fits = fits.z_fits; r_fits = fits.r_fits; q_fits = fits.q_fits; h_fits = fits.h_fits }
-with-fits s meaning.Speed group n fits num = record { x_fits = fits.x_fits; y_fits = fits.y_fits; z_fits = fits.z_fits; r_fits = fits.r_fits; q_fits = fits.q_fits; h_fits = fits.h_fits }
-with-fits s meaning.Rate group n fits num = record { x_fits = fits.x_fits; y_fits = fits.y_fits; z_fits = fits.z_fits; r_fits = fits.r_fits; q_fits = fits.q_fits; h_fits = fits.h_fits }
-with-fits s meaning.Name group n fits num = record { x_fits = fits.x_fits; y_fits = fits.y_fits; z_fits = fits.z_fits; r_fits = fits.r_fits; q_fits = fits.q_fits; h_fits = fits.h_fits }
-with-fits s meaning.P group n fits num = record { x_fits = fits.x_fits; y_fits = fits.y_fits; z_fits = fits.z_fits; r_fits = fits.r_fits; q_fits = fits.q_fits; h_fits = fits.h_fits }
+with-fits s meaning.X group n fits num = record { x_fits = num; y_fits = fits.y_fits; z_fits = fits.z_fits; r_fits = fits.r_fits; q_fits = fits.q_fits; h_fits = fits.h_fits; p_fits = fits.p_fits; i_fits = fits.i_fits; j_fits = fits.j_fits; k_fits = fits.k_fits }
+with-fits s meaning.Y group n fits num = record { x_fits = fits.x_fits; y_fits = num; z_fits = fits.z_fits; r_fits = fits.r_fits; q_fits = fits.q_fits; h_fits = fits.h_fits; p_fits = fits.p_fits; i_fits = fits.i_fits; j_fits = fits.j_fits; k_fits = fits.k_fits }
+with-fits s meaning.Z group n fits num = record { x_fits = fits.x_fits; y_fits = fits.y_fits; z_fits = num; r_fits = fits.r_fits; q_fits = fits.q_fits; h_fits = fits.h_fits; p_fits = fits.p_fits; i_fits = fits.i_fits; j_fits = fits.j_fits; k_fits = fits.k_fits }
+with-fits s meaning.R group n fits num = record { x_fits = fits.x_fits; y_fits = fits.y_fits; z_fits = fits.z_fits; r_fits = num; q_fits = fits.q_fits; h_fits = fits.h_fits; p_fits = fits.p_fits; i_fits = fits.i_fits; j_fits = fits.j_fits; k_fits = fits.k_fits }
+with-fits s meaning.Q group n fits num = record { x_fits = fits.x_fits; y_fits = fits.y_fits; z_fits = fits.z_fits; r_fits = fits.r_fits; q_fits = num; h_fits = fits.h_fits; p_fits = fits.p_fits; i_fits = fits.i_fits; j_fits = fits.j_fits; k_fits = fits.k_fits }
+with-fits s meaning.H group n fits num = record { x_fits = fits.x_fits; y_fits = fits.y_fits; z_fits = fits.z_fits; r_fits = fits.r_fits; q_fits = fits.q_fits; h_fits = num; p_fits = fits.p_fits; i_fits = fits.i_fits; j_fits = fits.j_fits; k_fits = fits.k_fits }
+with-fits s meaning.I group n fits num = record { x_fits = fits.x_fits; y_fits = fits.y_fits; z_fits = fits.z_fits; r_fits = fits.r_fits; q_fits = fits.q_fits; h_fits = fits.h_fits; p_fits = fits.p_fits; i_fits = num; j_fits = fits.j_fits; k_fits = fits.k_fits }
+with-fits s meaning.J group n fits num = record { x_fits = fits.x_fits; y_fits = fits.y_fits; z_fits = fits.z_fits; r_fits = fits.r_fits; q_fits = fits.q_fits; h_fits = fits.h_fits; p_fits = fits.p_fits; i_fits = fits.i_fits; j_fits = num; k_fits = fits.k_fits }
+with-fits s meaning.K group n fits num = record { x_fits = fits.x_fits; y_fits = fits.y_fits; z_fits = fits.z_fits; r_fits = fits.r_fits; q_fits = fits.q_fits; h_fits = fits.h_fits; p_fits = fits.p_fits; i_fits = fits.i_fits; j_fits = fits.j_fits; k_fits = num }
+with-fits s meaning.Nothing group n fits num = record { x_fits = fits.x_fits; y_fits = fits.y_fits; z_fits = fits.z_fits; r_fits = fits.r_fits; q_fits = fits.q_fits; h_fits = fits.h_fits; p_fits = fits.p_fits; i_fits = fits.i_fits; j_fits = fits.j_fits; k_fits = fits.k_fits }
+with-fits s (meaning.Straight kind) group n fits num = record { x_fits = fits.x_fits; y_fits = fits.y_fits; z_fits = fits.z_fits; r_fits = fits.r_fits; q_fits = fits.q_fits; h_fits = fits.h_fits; p_fits = fits.p_fits; i_fits = fits.i_fits; j_fits = fits.j_fits; k_fits = fits.k_fits }
+with-fits s meaning.Still group n fits num = record { x_fits = fits.x_fits; y_fits = fits.y_fits; z_fits = fits.z_fits; r_fits = fits.r_fits; q_fits = fits.q_fits; h_fits = fits.h_fits; p_fits = fits.p_fits; i_fits = fits.i_fits; j_fits = fits.j_fits; k_fits = fits.k_fits }
+with-fits s (meaning.Turn turn) group n fits num = record { x_fits = fits.x_fits; y_fits = fits.y_fits; z_fits = fits.z_fits; r_fits = fits.r_fits; q_fits = fits.q_fits; h_fits = fits.h_fits; p_fits = fits.p_fits; i_fits = fits.i_fits; j_fits = fits.j_fits; k_fits = fits.k_fits }
+with-fits s (meaning.Plane plane) group n fits num = record { x_fits = fits.x_fits; y_fits = fits.y_fits; z_fits = fits.z_fits; r_fits = fits.r_fits; q_fits = fits.q_fits; h_fits = fits.h_fits; p_fits = fits.p_fits; i_fits = fits.i_fits; j_fits = fits.j_fits; k_fits = fits.k_fits }
+with-fits s (meaning.Drill c) group n fits num = record { x_fits = fits.x_fits; y_fits = fits.y_fits; z_fits = fits.z_fits; r_fits = fits.r_fits; q_fits = fits.q_fits; h_fits = fits.h_fits; p_fits = fits.p_fits; i_fits = fits.i_fits; j_fits = fits.j_fits; k_fits = fits.k_fits }
+with-fits s (meaning.Absolute absolute) group n fits num = record { x_fits = fits.x_fits; y_fits = fits.y_fits; z_fits = fits.z_fits; r_fits = fits.r_fits; q_fits = fits.q_fits; h_fits = fits.h_fits; p_fits = fits.p_fits; i_fits = fits.i_fits; j_fits = fits.j_fits; k_fits = fits.k_fits }
+with-fits s (meaning.Lengths lengths) group n fits num = record { x_fits = fits.x_fits; y_fits = fits.y_fits; z_fits = fits.z_fits; r_fits = fits.r_fits; q_fits = fits.q_fits; h_fits = fits.h_fits; p_fits = fits.p_fits; i_fits = fits.i_fits; j_fits = fits.j_fits; k_fits = fits.k_fits }
+with-fits s (meaning.Length on) group n fits num = record { x_fits = fits.x_fits; y_fits = fits.y_fits; z_fits = fits.z_fits; r_fits = fits.r_fits; q_fits = fits.q_fits; h_fits = fits.h_fits; p_fits = fits.p_fits; i_fits = fits.i_fits; j_fits = fits.j_fits; k_fits = fits.k_fits }
+with-fits s (meaning.Zero zero) group n fits num = record { x_fits = fits.x_fits; y_fits = fits.y_fits; z_fits = fits.z_fits; r_fits = fits.r_fits; q_fits = fits.q_fits; h_fits = fits.h_fits; p_fits = fits.p_fits; i_fits = fits.i_fits; j_fits = fits.j_fits; k_fits = fits.k_fits }
+with-fits s (meaning.Returns returns) group n fits num = record { x_fits = fits.x_fits; y_fits = fits.y_fits; z_fits = fits.z_fits; r_fits = fits.r_fits; q_fits = fits.q_fits; h_fits = fits.h_fits; p_fits = fits.p_fits; i_fits = fits.i_fits; j_fits = fits.j_fits; k_fits = fits.k_fits }
+with-fits s meaning.Tolerance group n fits num = record { x_fits = fits.x_fits; y_fits = fits.y_fits; z_fits = fits.z_fits; r_fits = fits.r_fits; q_fits = fits.q_fits; h_fits = fits.h_fits; p_fits = fits.p_fits; i_fits = fits.i_fits; j_fits = fits.j_fits; k_fits = fits.k_fits }
+with-fits s meaning.Exact group n fits num = record { x_fits = fits.x_fits; y_fits = fits.y_fits; z_fits = fits.z_fits; r_fits = fits.r_fits; q_fits = fits.q_fits; h_fits = fits.h_fits; p_fits = fits.p_fits; i_fits = fits.i_fits; j_fits = fits.j_fits; k_fits = fits.k_fits }
+with-fits s meaning.Cancel group n fits num = record { x_fits = fits.x_fits; y_fits = fits.y_fits; z_fits = fits.z_fits; r_fits = fits.r_fits; q_fits = fits.q_fits; h_fits = fits.h_fits; p_fits = fits.p_fits; i_fits = fits.i_fits; j_fits = fits.j_fits; k_fits = fits.k_fits }
+with-fits s meaning.Rest group n fits num = record { x_fits = fits.x_fits; y_fits = fits.y_fits; z_fits = fits.z_fits; r_fits = fits.r_fits; q_fits = fits.q_fits; h_fits = fits.h_fits; p_fits = fits.p_fits; i_fits = fits.i_fits; j_fits = fits.j_fits; k_fits = fits.k_fits }
+with-fits s meaning.Home group n fits num = record { x_fits = fits.x_fits; y_fits = fits.y_fits; z_fits = fits.z_fits; r_fits = fits.r_fits; q_fits = fits.q_fits; h_fits = fits.h_fits; p_fits = fits.p_fits; i_fits = fits.i_fits; j_fits = fits.j_fits; k_fits = fits.k_fits }
+with-fits s meaning.MachinePlace group n fits num = record { x_fits = fits.x_fits; y_fits = fits.y_fits; z_fits = fits.z_fits; r_fits = fits.r_fits; q_fits = fits.q_fits; h_fits = fits.h_fits; p_fits = fits.p_fits; i_fits = fits.i_fits; j_fits = fits.j_fits; k_fits = fits.k_fits }
+with-fits s meaning.Stop group n fits num = record { x_fits = fits.x_fits; y_fits = fits.y_fits; z_fits = fits.z_fits; r_fits = fits.r_fits; q_fits = fits.q_fits; h_fits = fits.h_fits; p_fits = fits.p_fits; i_fits = fits.i_fits; j_fits = fits.j_fits; k_fits = fits.k_fits }
+with-fits s meaning.End group n fits num = record { x_fits = fits.x_fits; y_fits = fits.y_fits; z_fits = fits.z_fits; r_fits = fits.r_fits; q_fits = fits.q_fits; h_fits = fits.h_fits; p_fits = fits.p_fits; i_fits = fits.i_fits; j_fits = fits.j_fits; k_fits = fits.k_fits }
+with-fits s meaning.Change group n fits num = record { x_fits = fits.x_fits; y_fits = fits.y_fits; z_fits = fits.z_fits; r_fits = fits.r_fits; q_fits = fits.q_fits; h_fits = fits.h_fits; p_fits = fits.p_fits; i_fits = fits.i_fits; j_fits = fits.j_fits; k_fits = fits.k_fits }
+with-fits s (meaning.Spindle turns) group n fits num = record { x_fits = fits.x_fits; y_fits = fits.y_fits; z_fits = fits.z_fits; r_fits = fits.r_fits; q_fits = fits.q_fits; h_fits = fits.h_fits; p_fits = fits.p_fits; i_fits = fits.i_fits; j_fits = fits.j_fits; k_fits = fits.k_fits }
+with-fits s meaning.Tool group n fits num = record { x_fits = fits.x_fits; y_fits = fits.y_fits; z_fits = fits.z_fits; r_fits = fits.r_fits; q_fits = fits.q_fits; h_fits = fits.h_fits; p_fits = fits.p_fits; i_fits = fits.i_fits; j_fits = fits.j_fits; k_fits = fits.k_fits }
+with-fits s meaning.Speed group n fits num = record { x_fits = fits.x_fits; y_fits = fits.y_fits; z_fits = fits.z_fits; r_fits = fits.r_fits; q_fits = fits.q_fits; h_fits = fits.h_fits; p_fits = fits.p_fits; i_fits = fits.i_fits; j_fits = fits.j_fits; k_fits = fits.k_fits }
+with-fits s meaning.Rate group n fits num = record { x_fits = fits.x_fits; y_fits = fits.y_fits; z_fits = fits.z_fits; r_fits = fits.r_fits; q_fits = fits.q_fits; h_fits = fits.h_fits; p_fits = fits.p_fits; i_fits = fits.i_fits; j_fits = fits.j_fits; k_fits = fits.k_fits }
+with-fits s meaning.Name group n fits num = record { x_fits = fits.x_fits; y_fits = fits.y_fits; z_fits = fits.z_fits; r_fits = fits.r_fits; q_fits = fits.q_fits; h_fits = fits.h_fits; p_fits = fits.p_fits; i_fits = fits.i_fits; j_fits = fits.j_fits; k_fits = fits.k_fits }
+with-fits s meaning.P group n fits num = record { x_fits = fits.x_fits; y_fits = fits.y_fits; z_fits = fits.z_fits; r_fits = fits.r_fits; q_fits = fits.q_fits; h_fits = fits.h_fits; p_fits = num; i_fits = fits.i_fits; j_fits = fits.j_fits; k_fits = fits.k_fits }
 
 -- lengths that may come on a line are those in force, once an axis word has come
 unfoldable pub LengthsStay : Before → MachineSaid → Type 0
@@ -66,9 +72,14 @@ with-lengths p s meaning.Z group n stay same = stay
 with-lengths p s meaning.R group n stay same = stay
 with-lengths p s meaning.Q group n stay same = stay
 with-lengths p s meaning.H group n stay same = stay
+with-lengths p s meaning.I group n stay same = stay
+with-lengths p s meaning.J group n stay same = stay
+with-lengths p s meaning.K group n stay same = stay
 with-lengths p s meaning.Nothing group n stay same = stay
 with-lengths p s (meaning.Straight kind) group n stay same = stay
 with-lengths p s meaning.Still group n stay same = stay
+with-lengths p s (meaning.Turn turn) group n stay same = stay
+with-lengths p s (meaning.Plane plane) group n stay same = stay
 with-lengths p s (meaning.Drill c) group n stay same = stay
 with-lengths p s (meaning.Absolute absolute) group n stay same = stay
 with-lengths p s (meaning.Lengths lengths) group n stay same = same
@@ -76,6 +87,7 @@ with-lengths p s (meaning.Length on) group n stay same = stay
 with-lengths p s (meaning.Zero zero) group n stay same = stay
 with-lengths p s (meaning.Returns returns) group n stay same = stay
 with-lengths p s meaning.Tolerance group n stay same = stay
+with-lengths p s meaning.Exact group n stay same = stay
 with-lengths p s meaning.Cancel group n stay same = stay
 with-lengths p s meaning.Rest group n stay same = stay
 with-lengths p s meaning.Home group n stay same = stay
@@ -117,7 +129,7 @@ unless-fits p (Some f) r fits = tt
 unless-fits p None r fits = fits refl
 
 begun-fits : (s : MachineSaid) (w : Word) (row : Row) → FitsTold s → FitsTold (with_word s w row)
-begun-fits s w row fits = record { x_fits = fits.x_fits; y_fits = fits.y_fits; z_fits = fits.z_fits; r_fits = fits.r_fits; q_fits = fits.q_fits; h_fits = fits.h_fits }
+begun-fits s w row fits = record { x_fits = fits.x_fits; y_fits = fits.y_fits; z_fits = fits.z_fits; r_fits = fits.r_fits; q_fits = fits.q_fits; h_fits = fits.h_fits; p_fits = fits.p_fits; i_fits = fits.i_fits; j_fits = fits.j_fits; k_fits = fits.k_fits }
 
 row-fits : (p : Before) (t : Takes) (s : MachineSaid) (w : Word) (row : Row) → FitsTold s → LengthsStay p s → FitsWord w → SoFits p (told_row p t s w row)
 unfolding told_row SoFits LengthsStay
@@ -150,4 +162,4 @@ pub told_fits : (c : Control) (p : Before) (l : Line) (s : MachineSaid) → All 
 unfolding SoFits LengthsStay
 told_fits c p l s all is =
     subst (SoFits p) is (so-if p l.slash (Err (fault.NotInProfile p.line 47 (record { neg = false; mant = 0; scale = 0 }))) (told_from p (takes_of c p l.words) nothing_told l.words) tt
-    (words-fit p (takes_of c p l.words) nothing_told l.words (record { x_fits = tt; y_fits = tt; z_fits = tt; r_fits = tt; q_fits = tt; h_fits = tt }) tt all))
+    (words-fit p (takes_of c p l.words) nothing_told l.words (record { x_fits = tt; y_fits = tt; z_fits = tt; r_fits = tt; q_fits = tt; h_fits = tt; p_fits = tt; i_fits = tt; j_fits = tt; k_fits = tt }) tt all))

@@ -18,3 +18,7 @@ pub record FitsTold (s : MachineSaid) : Type 0 where
   pub r_fits : IfSome s.r (FitsNum 18)
   pub q_fits : IfSome s.q (FitsNum 18)
   pub h_fits : IfSome s.h (FitsNum 18)
+  pub p_fits : IfSome s.p (FitsNum 18)
+  pub i_fits : IfSome s.i (FitsNum 18)
+  pub j_fits : IfSome s.j (FitsNum 18)
+  pub k_fits : IfSome s.k (FitsNum 18)

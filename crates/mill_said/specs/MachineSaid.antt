@@ -14,7 +14,7 @@ use Rattle.mill_said.specs.declared.machine_table.Meaning.TheVariants as meaning
 use Rattle.mill_said.specs.declared.machine_takes.Takes.{Takes}
 use Rattle.mill_said.specs.declared.machine_said.MachineSaid.{MachineSaid}
 use Rattle.mill_said.specs.declared.machine_said.Motion.{Motion}
-use Rattle.mill_said.specs.declared.machine_said.Motion.TheVariants.{Goes, Drills}
+use Rattle.mill_said.specs.declared.machine_said.Motion.TheVariants.{Goes, Drills, Turns}
 use Rattle.mill_said.specs.declared.before.Before.{Before}
 use Rattle.mill_said.specs.declared.rules.Control.{Control}
 use Rattle.mill_said.specs.MachineTable.{row_of}
@@ -24,7 +24,7 @@ use Rattle.mill_said.specs.Profile.{is_same_group, may_repeat, repeated}
 use Rattle.mill_said.specs.Said.{◌>>=◌}
 
 abbrev pub nothing_told : MachineSaid
-nothing_told = record { begun = false; groups = []; motion = None; still = false; absolute = None; lengths = None; length = None; zero = None; returns = None; up = None; alone = None; tolerates = false; rests = false; ends = false; stops = false; changes = false; selects = false; spindle = None; speed = None; rate = None; x = None; y = None; z = None; r = None; q = None; p = false; h = None }
+nothing_told = record { begun = false; groups = []; motion = None; still = false; absolute = None; lengths = None; length = None; zero = None; returns = None; plane = None; up = None; alone = None; tolerates = false; exact = false; rests = false; ends = false; stops = false; changes = false; selects = false; spindle = None; speed = None; rate = None; x = None; y = None; z = None; r = None; q = None; p = None; h = None; i = None; j = None; k = None }
 
 -- ---- two words that don't stand on one line
 
@@ -32,14 +32,23 @@ nothing_told = record { begun = false; groups = []; motion = None; still = false
 abbrev pub names_axis : MachineSaid → Bool
 names_axis s = (is_some s.x || is_some s.y) || is_some s.z
 
+-- a word of where an arc's centre is
+abbrev pub names_centre : MachineSaid → Bool
+names_centre s = (is_some s.i || is_some s.j) || is_some s.k
+
 abbrev pub is_drills : Option Motion → Bool
 is_drills (Some (Drills c)) = true
 is_drills motion = false
 
+abbrev pub is_turns : Option Motion → Bool
+is_turns (Some (Turns t)) = true
+is_turns motion = false
+
 -- G80 may stand beside one G0 or G1; no other two words of the motion group may
 abbrev pub motions_clash : MachineSaid → Meaning → Bool
 motions_clash s (meaning.Straight kind) = is_some s.motion
-motions_clash s meaning.Still = s.still || is_drills s.motion
+motions_clash s (meaning.Turn t) = s.still || is_some s.motion
+motions_clash s meaning.Still = s.still || (is_drills s.motion || is_turns s.motion)
 motions_clash s (meaning.Drill c) = s.still || is_some s.motion
 motions_clash s m = false
 
@@ -97,8 +106,11 @@ told_number s meaning.Y n = record s { y = Some n }
 told_number s meaning.Z n = record s { z = Some n }
 told_number s meaning.R n = record s { r = Some n }
 told_number s meaning.Q n = record s { q = Some n }
-told_number s meaning.P n = record s { p = true }
+told_number s meaning.P n = record s { p = Some n }
 told_number s meaning.H n = record s { h = Some n }
+told_number s meaning.I n = record s { i = Some n }
+told_number s meaning.J n = record s { j = Some n }
+told_number s meaning.K n = record s { k = Some n }
 told_number s m n = s
 
 -- and one that stands for its line alone, or for the tool and the spindle
@@ -117,6 +129,8 @@ told_once s m group n = told_number s m n
 -- and one that sets a mode
 abbrev pub told_by : MachineSaid → Meaning → ℕ → Num → MachineSaid
 told_by s (meaning.Straight kind) group n = record s { motion = Some (Goes kind) }
+told_by s (meaning.Turn t) group n = record s { motion = Some (Turns t) }
+told_by s (meaning.Plane plane) group n = record s { plane = Some plane }
 told_by s meaning.Still group n = record s { still = true }
 told_by s (meaning.Drill c) group n = record s { motion = Some (Drills c) }
 told_by s (meaning.Absolute absolute) group n = record s { absolute = Some absolute }
@@ -125,6 +139,7 @@ told_by s (meaning.Length on) group n = record s { length = Some on }
 told_by s (meaning.Zero zero) group n = record s { zero = Some zero }
 told_by s (meaning.Returns returns) group n = record s { returns = Some returns }
 told_by s meaning.Tolerance group n = record s { tolerates = true }
+told_by s meaning.Exact group n = record s { exact = true }
 told_by s m group n = told_once s m group n
 
 abbrev pub told : MachineSaid → Row → Num → MachineSaid

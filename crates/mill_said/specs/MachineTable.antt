@@ -6,6 +6,8 @@ use Rattle.mill_words.specs.declared.word.Word.{Word}
 use Rattle.mill_control.specs.declared.lengths.LengthUnit.TheVariants.{Millimetres, Inches}
 use Rattle.mill_control.specs.declared.series.Cycle.TheVariants as cycle
 use Rattle.mill_control.specs.declared.series.Return.TheVariants.{Level, Clearance}
+use Rattle.mill_control.specs.declared.turn.Plane.TheVariants as plane
+use Rattle.mill_control.specs.declared.turn.Turn.TheVariants.{Clockwise, Counterclockwise}
 use Rattle.mill_said.specs.declared.machine_table.Row.{Row}
 use Rattle.mill_said.specs.declared.machine_table.Meaning.{Meaning}
 use Rattle.mill_said.specs.declared.machine_table.Meaning.TheVariants as meaning
@@ -29,11 +31,20 @@ abbrev pub motion_row : ℕ → Option Row
 motion_row n =
     if n == 0 then in_group 1 (meaning.Straight Rapid) else
     (if n == 10 then in_group 1 (meaning.Straight Feed) else
+    (if n == 20 then in_group 1 (meaning.Turn Clockwise) else
+    (if n == 30 then in_group 1 (meaning.Turn Counterclockwise) else
     (if n == 800 then in_group 1 meaning.Still else
     (if n == 810 then in_group 1 (meaning.Drill cycle.Drill) else
     (if n == 820 then in_group 1 (meaning.Drill cycle.Dwell) else
     (if n == 830 then in_group 1 (meaning.Drill cycle.Peck) else
-    (if n == 730 then in_group 1 (meaning.Drill cycle.Break) else None))))))
+    (if n == 730 then in_group 1 (meaning.Drill cycle.Break) else None))))))))
+
+-- the plane of arcs
+abbrev pub plane_row : ℕ → Option Row
+plane_row n =
+    if n == 170 then in_group 2 (meaning.Plane plane.Xy) else
+    (if n == 180 then in_group 2 (meaning.Plane plane.Zx) else
+    (if n == 190 then in_group 2 (meaning.Plane plane.Yz) else None))
 
 -- how numbers are read
 abbrev pub number_row : ℕ → Option Row
@@ -55,18 +66,17 @@ once_row n =
     (if (n == 280) || (n == 300) then in_group 0 meaning.Home else
     (if n == 530 then in_group 0 meaning.MachinePlace else None))
 
--- what changes nothing, or turns off what isn't on
+-- what changes nothing, or turns off what isn't on, and how exactly the path is followed
 abbrev pub other_row : ℕ → Option Row
 other_row n =
-    if n == 170 then in_group 2 meaning.Nothing else
-    (if n == 940 then in_group 5 meaning.Nothing else
+    if n == 940 then in_group 5 meaning.Nothing else
     (if n == 400 then in_group 7 meaning.Nothing else
-    (if (n == 610) || (n == 611) then in_group 13 meaning.Nothing else
+    (if (n == 610) || (n == 611) then in_group 13 meaning.Exact else
     (if n == 640 then in_group 13 meaning.Tolerance else
     (if n == 911 then in_group 16 meaning.Nothing else
     (if n == 150 then in_group 17 meaning.Cancel else
     (if n == 500 then in_group 11 meaning.Cancel else
-    (if n == 690 then in_group 19 meaning.Cancel else None))))))))
+    (if n == 690 then in_group 19 meaning.Cancel else None)))))))
 
 abbrev pub or_row : Option Row → Option Row → Option Row
 or_row (Some row) other = Some row
@@ -74,7 +84,7 @@ or_row None other = other
 
 -- the G words, by ten times their number
 abbrev pub machine_g_row : ℕ → Option Row
-machine_g_row n = or_row (motion_row n) (or_row (number_row n) (or_row (once_row n) (other_row n)))
+machine_g_row n = or_row (motion_row n) (or_row (plane_row n) (or_row (number_row n) (or_row (once_row n) (other_row n))))
 
 -- the M words
 abbrev pub machine_m_row : ℕ → Option Row
@@ -86,7 +96,7 @@ machine_m_row n =
     (if n == 5 then in_group 7 (meaning.Spindle false) else
     (if ((n == 7) || (n == 8)) || (n == 9) then in_group 8 meaning.Nothing else None)))))
 
--- the other letters; F, H, O, P, Q, R, S, T, X, Y and Z are 70, 72, 79, 80, 81, 82, 83, 84, 88, 89 and 90
+-- the other letters; F, H, I, J, K, O, P, Q, R, S, T, X, Y and Z are 70, 72, 73, 74, 75, 79, 80, 81, 82, 83, 84, 88, 89 and 90
 abbrev pub machine_letter_row : ℕ → Option Row
 machine_letter_row letter =
     if letter == 88 then in_group 0 meaning.X else
@@ -96,10 +106,13 @@ machine_letter_row letter =
     (if letter == 83 then in_group 0 meaning.Speed else
     (if letter == 84 then in_group 0 meaning.Tool else
     (if letter == 72 then in_group 0 meaning.H else
+    (if letter == 73 then in_group 0 meaning.I else
+    (if letter == 74 then in_group 0 meaning.J else
+    (if letter == 75 then in_group 0 meaning.K else
     (if letter == 79 then in_group 0 meaning.Name else
     (if letter == 80 then in_group 0 meaning.P else
     (if letter == 81 then in_group 0 meaning.Q else
-    (if letter == 82 then in_group 0 meaning.R else None))))))))))
+    (if letter == 82 then in_group 0 meaning.R else None)))))))))))))
 
 abbrev pub row_in : (ℕ → Option Row) → Option ℕ → Option Row
 row_in table None = None

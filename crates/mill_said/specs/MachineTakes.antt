@@ -8,6 +8,7 @@ use Rattle.mill_control.specs.declared.lengths.LengthUnit.{LengthUnit}
 use Rattle.mill_control.specs.declared.lengths.LengthUnit.TheVariants.{Millimetres, Inches}
 use Rattle.mill_control.specs.declared.series.Cycle.{Cycle}
 use Rattle.mill_control.specs.declared.series.Cycle.TheVariants.{Dwell}
+use Rattle.mill_control.specs.declared.turn.Turn.{Turn}
 use Rattle.mill_said.specs.declared.machine_table.Row.{Row}
 use Rattle.mill_said.specs.declared.machine_table.Meaning.{Meaning}
 use Rattle.mill_said.specs.declared.machine_table.Meaning.TheVariants as meaning
@@ -29,9 +30,14 @@ has_word test words = list_any (λ w. test (meaning_of (row_of w))) words
 
 abbrev pub is_motion : Meaning → Bool
 is_motion (meaning.Straight kind) = true
+is_motion (meaning.Turn t) = true
 is_motion meaning.Still = true
 is_motion (meaning.Drill c) = true
 is_motion m = false
+
+abbrev pub is_turn : Meaning → Bool
+is_turn (meaning.Turn t) = true
+is_turn m = false
 
 abbrev pub is_drill : Meaning → Bool
 is_drill (meaning.Drill c) = true
@@ -77,6 +83,10 @@ dwells_by cycle = false
 abbrev pub line_drills : Option Cycle → List Word → Bool
 line_drills cycle words = has_word is_drill words || (not (has_word is_motion words) && is_some cycle)
 
+-- it is an arc's
+abbrev pub line_turns : Option Turn → List Word → Bool
+line_turns turn words = has_word is_turn words || (not (has_word is_motion words) && is_some turn)
+
 abbrev pub line_dwells : Option Cycle → List Word → Bool
 line_dwells cycle words = has_word is_dwell words || (not (has_word is_motion words) && dwells_by cycle)
 
@@ -105,13 +115,17 @@ takes_of c p words = record {
   no_number = has_word (is_length false) words;
   rest = has_word is_rest words || (has_word is_tolerance words || line_dwells p.cycle words);
   drill = line_drills p.cycle words;
+  turn = line_turns p.turn words;
   tolerance = is_tolerable (per (line_lengths p.millimetres words) p.unit) c.path_tolerance (first_p words);
 }
 
--- the line takes a word of this meaning with this number: H with G43, H0 with G49; P with G4, G64, or where it dwells; R and Q where it drills
+-- the line takes a word of this meaning with this number: H with G43, H0 with G49; P with G4, G64, or where it dwells; R and Q where it drills; R, I, J and K where it turns
 abbrev pub takes : Takes → Meaning → Num → Bool
 takes t meaning.H n = t.number || (t.no_number && (n.mant == 0))
 takes t meaning.P n = t.rest
-takes t meaning.R n = t.drill
+takes t meaning.R n = t.drill || t.turn
+takes t meaning.I n = t.turn
+takes t meaning.J n = t.turn
+takes t meaning.K n = t.turn
 takes t meaning.Q n = t.drill
 takes t m n = true

@@ -16,6 +16,11 @@ whole_of n =
 abbrev pub is_over_zero : Num → Bool
 is_over_zero n = not n.neg && nat_lt 0 n.mant
 
+-- no number but 0, or none
+abbrev pub is_nought : Option Num → Bool
+is_nought None = true
+is_nought (Some n) = n.mant == 0
+
 abbrev pub signed : Bool → ℕ → ℤ
 signed neg n = if neg then neg_ℤ (pos n) else pos n
 

@@ -1,7 +1,7 @@
 //! What the lines before a line tell of it.
 
 use mill_base::Unit;
-use mill_control::Cycle;
+use mill_control::{Cycle, Turn};
 
 /// What the lines before a line have settled, as far as its words are read by it.
 #[derive(Clone, Copy)]
@@ -18,4 +18,6 @@ pub struct Before {
     pub inches: bool,
     /// The drilling cycle that is the motion mode.
     pub cycle: Option<Cycle>,
+    /// The way round of the arcs that are the motion mode.
+    pub turn: Option<Turn>,
 }

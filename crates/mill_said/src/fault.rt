@@ -32,7 +32,7 @@ pub enum NgcFault {
     #[error("line {line}: `{}` twice", char::from(*.letter))]
     Twice { line: u64, letter: u8 },
     /// With a machine's words: a `G64` whose tolerance is missing, not over 0, or greater than the
-    /// job allows.
+    /// job allows; or an arc while one is in force that is greater than arcs leave for it.
     #[error("line {line}: a path tolerance that is missing or too great")]
     PathControl { line: u64 },
     /// Where the tool may stand anywhere before the program: the first line with an axis word isn't
@@ -60,6 +60,11 @@ pub enum NgcFault {
     /// A feed is asked to have a spindle, and the last `F` isn't over 0.
     #[error("line {line}: a feed without a feed rate")]
     NoFeed { line: u64 },
+    /// With a machine's words: an arc that the slack has no room for, whose words don't tell its
+    /// centre, whose numbers aren't whole nanometres, or whose start and end don't lie on one
+    /// circle.
+    #[error("line {line}: an arc that is not whole, or that the slack has no room for")]
+    Arc { line: u64 },
     /// With a machine's words: a drilling cycle that lacks a word, or that controls run
     /// differently.
     #[error("line {line}: a drilling cycle that is not whole, or that controls run differently")]

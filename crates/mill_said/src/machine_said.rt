@@ -3,6 +3,8 @@ ghost use Rattle.std.specs.Prelude.{◌≡◌, ◌<◌, ◌≤◌, ◌+◌, leng
 ghost use Rattle.mill_words.specs.Words.{FitsNum, FitsWord};
 ghost use Rattle.mill_said.specs.MachineSaid.{nothing_told, names_axis as names_axis_said};
 ghost use Rattle.mill_said.specs.MachineSaid.{is_drills as is_drills_motion};
+ghost use Rattle.mill_said.specs.MachineSaid.{is_turns as is_turns_motion};
+ghost use Rattle.mill_said.specs.MachineSaid.{names_centre as names_centre_said};
 ghost use Rattle.mill_said.specs.MachineSaid.{motions_clash as motions_clash_said};
 ghost use Rattle.mill_said.specs.MachineSaid.{other_lengths as other_lengths_said};
 ghost use Rattle.mill_said.specs.MachineSaid.{is_alone as is_alone_meaning};
@@ -27,7 +29,7 @@ use crate::numbers::{is_over_zero, whole_of};
 use crate::rules::Control;
 use crate::said::{may_repeat, repeated};
 use mill_base::Kind;
-use mill_control::{Cycle, LengthUnit, Return};
+use mill_control::{Cycle, LengthUnit, Plane, Return, Turn};
 use mill_words::{LineWords, Num, Word};
 
 /// The motion mode that a line sets.
@@ -37,6 +39,7 @@ pub enum Motion {
     Goes(Kind),
     /// A drilling cycle.
     Drills(Cycle),
+    Turns(Turn),
 }
 
 /// A way up to the machine's place, or across to it.
@@ -68,12 +71,16 @@ pub struct MachineSaid {
     pub zero: Option<u16>,
     /// How high a cycle's hole ends, as it sets that.
     pub returns: Option<Return>,
+    /// The plane of arcs that it sets.
+    pub plane: Option<Plane>,
     /// Its way up to the machine's place, or across to it.
     pub up: Option<Up>,
     /// The group of its first word that goes with no axis word.
     pub alone: Option<u8>,
     /// It has a `G64`.
     pub tolerates: bool,
+    /// It has a `G61` or `G61.1`.
+    pub exact: bool,
     /// It has a `G4`.
     pub rests: bool,
     /// It ends the program.
@@ -96,9 +103,11 @@ pub struct MachineSaid {
     pub z: Option<Num>,
     pub r: Option<Num>,
     pub q: Option<Num>,
-    /// It has a `P`.
-    pub p: bool,
+    pub p: Option<Num>,
     pub h: Option<Num>,
+    pub i: Option<Num>,
+    pub j: Option<Num>,
+    pub k: Option<Num>,
 }
 
 impl MachineSaid {
@@ -116,9 +125,11 @@ impl MachineSaid {
             length: None,
             zero: None,
             returns: None,
+            plane: None,
             up: None,
             alone: None,
             tolerates: false,
+            exact: false,
             rests: false,
             ends: false,
             stops: false,
@@ -132,8 +143,11 @@ impl MachineSaid {
             z: None,
             r: None,
             q: None,
-            p: false,
+            p: None,
             h: None,
+            i: None,
+            j: None,
+            k: None,
         }
     }
 
@@ -149,9 +163,11 @@ impl MachineSaid {
         self.length = None;
         self.zero = None;
         self.returns = None;
+        self.plane = None;
         self.up = None;
         self.alone = None;
         self.tolerates = false;
+        self.exact = false;
         self.rests = false;
         self.ends = false;
         self.stops = false;
@@ -165,8 +181,11 @@ impl MachineSaid {
         self.z = None;
         self.r = None;
         self.q = None;
-        self.p = false;
+        self.p = None;
         self.h = None;
+        self.i = None;
+        self.j = None;
+        self.k = None;
     }
 
     /// Whether the line has an axis word.
@@ -174,6 +193,13 @@ impl MachineSaid {
         ensures { result ≡ names_axis_said self.now }
     {
         self.x.is_some() || self.y.is_some() || self.z.is_some()
+    }
+
+    /// Whether it has a word of where an arc's centre is.
+    pub fn names_centre(&self) -> bool
+        ensures { result ≡ names_centre_said self.now }
+    {
+        self.i.is_some() || self.j.is_some() || self.k.is_some()
     }
 
     /// Takes what a line says behind the lines before it, in place of what was said.
@@ -312,7 +338,8 @@ impl MachineSaid {
     {
         match meaning {
             Meaning::Straight(_) => self.motion.is_some(),
-            Meaning::Still => self.still || is_drills(self.motion),
+            Meaning::Turn(_) => self.still || self.motion.is_some(),
+            Meaning::Still => { self.still || (is_drills(self.motion) || is_turns(self.motion)) }
             Meaning::Drill(_) => self.still || self.motion.is_some(),
             _ => false,
         }
@@ -348,6 +375,8 @@ impl MachineSaid {
     {
         match meaning {
             Meaning::Straight(kind) => self.motion = Some(Motion::Goes(kind)),
+            Meaning::Turn(turn) => self.motion = Some(Motion::Turns(turn)),
+            Meaning::Plane(plane) => self.plane = Some(plane),
             Meaning::Still => self.still = true,
             Meaning::Drill(cycle) => self.motion = Some(Motion::Drills(cycle)),
             Meaning::Absolute(absolute) => self.absolute = Some(absolute),
@@ -356,6 +385,7 @@ impl MachineSaid {
             Meaning::Zero(zero) => self.zero = Some(zero),
             Meaning::Returns(returns) => self.returns = Some(returns),
             Meaning::Tolerance => self.tolerates = true,
+            Meaning::Exact => self.exact = true,
             _ => self.note_once(meaning, group, num),
         }
     }
@@ -411,8 +441,11 @@ impl MachineSaid {
             Meaning::Z => self.z = Some(num),
             Meaning::R => self.r = Some(num),
             Meaning::Q => self.q = Some(num),
-            Meaning::P => self.p = true,
+            Meaning::P => self.p = Some(num),
             Meaning::H => self.h = Some(num),
+            Meaning::I => self.i = Some(num),
+            Meaning::J => self.j = Some(num),
+            Meaning::K => self.k = Some(num),
             _ => {}
         }
     }
@@ -447,6 +480,12 @@ fn is_drills(motion: Option<Motion>) -> bool
     ensures { result ≡ is_drills_motion motion }
 {
     matches!(motion, Some(Motion::Drills(_)))
+}
+
+fn is_turns(motion: Option<Motion>) -> bool
+    ensures { result ≡ is_turns_motion motion }
+{
+    matches!(motion, Some(Motion::Turns(_)))
 }
 
 // Whether lengths aren't in the unit in force, and an axis word has come on a line before.

@@ -7,12 +7,13 @@ ghost use Rattle.mill_said.specs.MachineTable.{machine_g_row, machine_m_row, mac
 ghost use Rattle.mill_said.specs.MachineTable.{motion_row as motion_row_of};
 ghost use Rattle.mill_said.specs.MachineTable.{in_group as row_in_group};
 ghost use Rattle.mill_said.specs.MachineTable.{number_row as number_row_of};
+ghost use Rattle.mill_said.specs.MachineTable.{plane_row as plane_row_of};
 ghost use Rattle.mill_said.specs.MachineTable.{once_row as once_row_of, other_row as other_row_of};
 ghost use Rattle.mill_said.specs.MachineTable.{is_zero as is_zero_number};
 
 use crate::numbers::{power, whole_of};
 use mill_base::Kind;
-use mill_control::{Cycle, LengthUnit, Return};
+use mill_control::{Cycle, LengthUnit, Plane, Return, Turn};
 use mill_words::{Num, Word};
 
 /// What a word means.
@@ -22,6 +23,8 @@ pub enum Meaning {
     Nothing,
     /// A straight motion.
     Straight(Kind),
+    /// An arc.
+    Turn(Turn),
     /// No motion mode.
     Still,
     /// A drilling cycle.
@@ -36,8 +39,12 @@ pub enum Meaning {
     Zero(u16),
     /// How high a cycle's hole ends.
     Returns(Return),
+    /// The plane of arcs.
+    Plane(Plane),
     /// The tolerance of the path.
     Tolerance,
+    /// No tolerance of it.
+    Exact,
     /// Turns off what isn't on, and goes with no axis word.
     Cancel,
     /// Rests for a while, and goes with no axis word.
@@ -68,6 +75,10 @@ pub enum Meaning {
     Y,
     /// Names its z.
     Z,
+    /// Where an arc's centre is from its start, along each axis.
+    I,
+    J,
+    K,
     /// Where a cycle's hole begins.
     R,
     /// How deep a peck is.
@@ -124,6 +135,9 @@ fn g_row(tenths: u64) -> Option<Row>
     if let Some(row) = motion_row(tenths) {
         return Some(row);
     }
+    if let Some(row) = plane_row(tenths) {
+        return Some(row);
+    }
     if let Some(row) = number_row(tenths) {
         return Some(row);
     }
@@ -140,11 +154,25 @@ fn motion_row(tenths: u64) -> Option<Row>
     match tenths {
         0 => in_group(1, Meaning::Straight(Kind::Rapid)),
         10 => in_group(1, Meaning::Straight(Kind::Feed)),
+        20 => in_group(1, Meaning::Turn(Turn::Clockwise)),
+        30 => in_group(1, Meaning::Turn(Turn::Counterclockwise)),
         800 => in_group(1, Meaning::Still),
         810 => in_group(1, Meaning::Drill(Cycle::Drill)),
         820 => in_group(1, Meaning::Drill(Cycle::Dwell)),
         830 => in_group(1, Meaning::Drill(Cycle::Peck)),
         730 => in_group(1, Meaning::Drill(Cycle::Break)),
+        _ => None,
+    }
+}
+
+// The plane of arcs.
+fn plane_row(tenths: u64) -> Option<Row>
+    ensures { result ≡ plane_row_of tenths }
+{
+    match tenths {
+        170 => in_group(2, Meaning::Plane(Plane::Xy)),
+        180 => in_group(2, Meaning::Plane(Plane::Zx)),
+        190 => in_group(2, Meaning::Plane(Plane::Yz)),
         _ => None,
     }
 }
@@ -187,15 +215,14 @@ fn once_row(tenths: u64) -> Option<Row>
     }
 }
 
-// What changes nothing, or turns off what isn't on.
+// What changes nothing, or turns off what isn't on, and how exactly the path is followed.
 fn other_row(tenths: u64) -> Option<Row>
     ensures { result ≡ other_row_of tenths }
 {
     match tenths {
-        170 => in_group(2, Meaning::Nothing),
         940 => in_group(5, Meaning::Nothing),
         400 => in_group(7, Meaning::Nothing),
-        610 | 611 => in_group(13, Meaning::Nothing),
+        610 | 611 => in_group(13, Meaning::Exact),
         640 => in_group(13, Meaning::Tolerance),
         911 => in_group(16, Meaning::Nothing),
         150 => in_group(17, Meaning::Cancel),
@@ -232,6 +259,9 @@ fn letter_row(letter: u8) -> Option<Row>
         b'S' => in_group(0, Meaning::Speed),
         b'T' => in_group(0, Meaning::Tool),
         b'H' => in_group(0, Meaning::H),
+        b'I' => in_group(0, Meaning::I),
+        b'J' => in_group(0, Meaning::J),
+        b'K' => in_group(0, Meaning::K),
         b'O' => in_group(0, Meaning::Name),
         b'P' => in_group(0, Meaning::P),
         b'Q' => in_group(0, Meaning::Q),

@@ -26,6 +26,8 @@ pub struct Takes {
     pub rest: bool,
     /// An R and a Q, since it drills.
     pub drill: bool,
+    /// An I, a J, a K and an R, since it turns.
+    pub turn: bool,
     /// Its P is a tolerance within the one that is allowed.
     pub tolerance: bool,
 }
@@ -47,6 +49,8 @@ struct Seen {
     pub drills: bool,
     /// It has the one that dwells.
     pub dwells: bool,
+    /// It has an arc's.
+    pub turns: bool,
     /// It says that lengths are inches.
     pub inches: bool,
     /// It says that lengths are millimetres.
@@ -67,6 +71,7 @@ impl Takes {
             no_number: seen.no_number,
             rest: seen.rests || (seen.tolerates || seen.mode_dwells(cycle)),
             drill: seen.drills || (!seen.moves && cycle.is_some()),
+            turn: seen.turns || (!seen.moves && before.turn.is_some()),
             tolerance: is_tolerable(per, control.path_tolerance, first_p(words)),
         }
     }
@@ -78,7 +83,9 @@ impl Takes {
         match meaning {
             Meaning::H => self.number || (self.no_number && num.mant == 0),
             Meaning::P => self.rest,
-            Meaning::R | Meaning::Q => self.drill,
+            Meaning::R => self.drill || self.turn,
+            Meaning::Q => self.drill,
+            Meaning::I | Meaning::J | Meaning::K => self.turn,
             _ => true,
         }
     }
@@ -93,6 +100,7 @@ impl Seen {
         moves: false,
         drills: false,
         dwells: false,
+        turns: false,
         inches: false,
         millimetres: false,
     };
@@ -123,6 +131,10 @@ impl Seen {
                 self.moves = true;
                 self.drills = true;
                 self.dwells = self.dwells || matches!(cycle, Cycle::Dwell);
+            }
+            Meaning::Turn(_) => {
+                self.moves = true;
+                self.turns = true;
             }
             Meaning::Lengths(LengthUnit::Inches) => self.inches = true,
             Meaning::Lengths(LengthUnit::Millimetres) => self.millimetres = true,
@@ -187,8 +199,8 @@ fn is_tolerable(per: u64, greatest: i32, num: Option<Num>) -> bool
     }
 }
 
-// Whether so many lengths, of which 1 is so many units, aren't over this many units.
-fn is_at_most(per: u64, units: i32, num: Num) -> bool
+/// Whether so many lengths, of which 1 is so many units, aren't over this many units.
+pub fn is_at_most(per: u64, units: i32, num: Num) -> bool
     requires per { per ≤ 25400 }
     requires num { FitsNum 18 num }
     ensures { result ≡ is_at_most_units per units num }

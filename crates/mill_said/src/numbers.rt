@@ -6,6 +6,7 @@ ghost use Rattle.mill_base.specs.Units.{places_of, greatest_of};
 ghost use Rattle.mill_said.specs.Numbers.{whole_of as whole_number_of};
 ghost use Rattle.mill_said.specs.Numbers.{whole_units as whole_units_of};
 ghost use Rattle.mill_said.specs.Numbers.{is_over_zero as is_over_zero_number};
+ghost use Rattle.mill_said.specs.Numbers.{is_nought as is_nought_number};
 ghost use Rattle.mill_said.specs.Numbers.{is_at_or_over as is_at_or_over_height};
 ghost use Rattle.mill_said.specs.Numbers.{is_on_grid as is_on_grid_number, axis_units as units_by};
 ghost use Rattle.mill_said.specs.Numbers.{signed as signed_by};
@@ -35,6 +36,16 @@ pub fn is_over_zero(num: Num) -> bool
     ensures { result ≡ is_over_zero_number num }
 {
     !num.neg && num.mant > 0
+}
+
+/// Whether there is no number but 0, or none.
+pub fn is_nought(num: Option<Num>) -> bool
+    ensures { result ≡ is_nought_number num }
+{
+    match num {
+        Some(num) => num.mant == 0,
+        None => true,
+    }
 }
 
 /// Whether a number of millimetres is at or over a height in units, all of its digits taken.

@@ -16,6 +16,12 @@ pub struct Control {
     pub rounds: bool,
     /// The greatest tolerance of the path that a program may ask for, in units.
     pub path_tolerance: i32,
+    /// By how many units the distances of an arc's start and end from its centre may differ: 1 to
+    /// 100.
+    pub arc_tolerance: u8,
+    /// How many units of the slack arcs leave for the machine. Where that is under 0 there is no
+    /// room for arcs.
+    pub arc_room: i32,
     /// The least distance over the depth before at which a peck's way down ends, in units: 0 to
     /// 10,000.
     pub peck_clearance: u16,

@@ -93,6 +93,7 @@ const JOB: JobFields = JobFields {
     words: Words::Strict,
     peck_clearance: None,
     lengths: ToolLengths::Table,
+    arc_tol: None,
 };
 
 /// What is said of a text: the job as it is, its levels and its fixtures, or its fault.

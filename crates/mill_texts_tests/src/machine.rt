@@ -20,7 +20,7 @@ const READ: &str = r#"# => keep_out = [] => and fixtures []
 # => unit = "thousandth"\nkeep_out = [[-524287, 0, 524287, 0, -524287]] => height: -524287 }]
 # => slack = 20\nkeep_out = [[0, 0, 0, 0, 380]] => height: 380 }]
 "flat" => "cone"\nrise = 4\nrun = 3\nslack = 2\nkeep_out = [[0, 0, 0, 0, 396]] => height: 396 }]
-# => # => rapids: Straight, start: Home, spindle: false, words: Strict, peck_clearance: None, lengths: Table } with
+# => # => rapids: Straight, start: Home, spindle: false, words: Strict, peck_clearance: None, lengths: Table, arc_tol: None } with
 # => rapids = "straight" => rapids: Straight, start: Home
 # => rapids = "axes" => rapids: Axes, start: Home
 # => start = "change"\nrapids = "axes" => rapids: Axes, start: Change
@@ -28,13 +28,15 @@ const READ: &str = r#"# => keep_out = [] => and fixtures []
 # => start = "anywhere" => start: Anywhere, spindle: false, words
 # => start = "change"\nspindle = false => start: Change, spindle: false, words
 # => start = "home" => start: Home, spindle: false, words
-# => words = "strict" => words: Strict, peck_clearance: None, lengths: Table }
+# => words = "strict" => words: Strict, peck_clearance: None, lengths: Table, arc_tol: None }
 # => start = "anywhere"\nwords = "machine" => start: Anywhere, spindle: false, words: Machine, peck
 # => start = "change"\nwords = "machine" => start: Change, spindle: false, words: Machine, peck
-# => peck_clearance = 0 => words: Strict, peck_clearance: Some(0), lengths: Table }
-# => peck_clearance = 10000 => peck_clearance: Some(10000), lengths: Table }
-# => lengths = "table" => lengths: Table }
-# => lengths = "one" => words: Strict, peck_clearance: None, lengths: One }"#;
+# => peck_clearance = 0 => words: Strict, peck_clearance: Some(0), lengths: Table, arc_tol: None }
+# => peck_clearance = 10000 => peck_clearance: Some(10000), lengths: Table, arc_tol: None }
+# => lengths = "table" => lengths: Table, arc_tol: None }
+# => lengths = "one" => words: Strict, peck_clearance: None, lengths: One, arc_tol: None }
+# => slack = 3\narc_tol = 1 => peck_clearance: None, lengths: Table, arc_tol: Some(1) }
+# => slack = 72\narc_tol = 70 => lengths: Table, arc_tol: Some(70) }"#;
 
 #[test]
 fn reads_what_the_machine_is(rt: HostRuntime) -> Result<(), Fail> {
@@ -88,6 +90,15 @@ const REFUSED: &str = r#"# => keep_out = 5 => wrong kind of keep_out
 # => lengths = "two" => lengths out of range
 # => lengths = 1 => wrong kind of lengths
 # => lengths = 1\nwords = "machine" => wrong kind of lengths
+# => slack = 10\narc_tol = 0 => arc_tol out of range
+# => slack = 10\narc_tol = 101 => arc_tol out of range
+# => slack = 10\narc_tol = "1" => wrong kind of arc_tol
+# => arc_tol = 0\nlengths = 1 => wrong kind of lengths
+# => arc_tol = 1 => arc_tol doesn't fit slack
+# => slack = 2\narc_tol = 1 => arc_tol doesn't fit slack
+# => slack = 71\narc_tol = 70 => arc_tol doesn't fit slack
+# => slack = 72\narc_tol = 100 => arc_tol doesn't fit slack
+# => words = "machine"\narc_tol = 1 => words doesn't fit start
 # => length = "one" => unknown length
 band = 0 => band = 151\nspindle = "true" => wrong kind of spindle
 # => keep_outs = [] => unknown keep_outs"#;
@@ -95,6 +106,23 @@ band = 0 => band = 151\nspindle = "true" => wrong kind of spindle
 #[test]
 fn refuses_another_machine(rt: HostRuntime) -> Result<(), Fail> {
     each_is_refused(&rt, rt.alloc(), &open(rt.alloc())?, REFUSED)
+}
+
+/// The tolerance of arcs, and whether the slack has room for it, of EXAMPLE with more keys.
+fn arcs(alloc: Global, keys: &str) -> Result<(i32, bool), Fail> {
+    let text = format!(in alloc; "{EXAMPLE}{keys}\n")?;
+    let job = read_job(alloc, text.as_bytes())?;
+    Ok((job.arc_tolerance(), job.arc_room() >= 0))
+}
+
+#[test]
+fn tells_the_tolerance_of_arcs(rt: HostRuntime) -> Result<(), Fail> {
+    assert_eq!(rt; arcs(rt.alloc(), "slack = 2")?, (1, false));
+    assert_eq!(rt; arcs(rt.alloc(), "slack = 3")?, (1, true));
+    let fine = "unit = \"thousandth\"\nslack = 4";
+    assert_eq!(rt; arcs(rt.alloc(), fine)?, (3, false));
+    assert_eq!(rt; arcs(rt.alloc(), "slack = 9\narc_tol = 7")?, (7, true));
+    Ok(())
 }
 
 /// EXAMPLE with so many fixtures, and this one behind them.

@@ -7,3 +7,4 @@ pub record Stays (old new : Progress) : Type 0 where
   pub same_unit : new.unit ≡ old.unit
   pub same_clear : new.clear ≡ old.clear
   pub same_series : new.machine.series ≡ old.machine.series
+  pub same_finer : new.machine.finer ≡ old.machine.finer

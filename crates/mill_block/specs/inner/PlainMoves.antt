@@ -11,9 +11,10 @@ use Rattle.mill_base.specs.declared.motion.Move.{Move}
 use Rattle.mill_base.specs.declared.points.Pt3.{Pt3}
 use Rattle.mill_base.specs.declared.unit.Unit.{Unit as LengthUnit}
 use Rattle.mill_words.specs.Lines.{EndsWord, and_word, is_word_letter, line_from, line_of}
-use Rattle.mill_words.specs.Words.{Line}
+use Rattle.mill_words.specs.Words.{FitsNum, Line}
 use Rattle.mill_words.specs.declared.word.Num.{Num}
 use Rattle.mill_words.specs.declared.word.Word.{Word}
+use Rattle.mill_block.specs.MachineSettings.{nothing_finer}
 use Rattle.mill_control.specs.declared.place.Height.TheVariants.{Known as KnownHeight}
 use Rattle.mill_said.specs.declared.fault.NgcFault.{NgcFault}
 use Rattle.mill_said.specs.declared.before.Before.{Before}
@@ -46,8 +47,9 @@ use Rattle.mill_said.specs.Said.{after_word, nothing_said, said_from}
 
 -- ---- what is taken
 
--- a number's units, in range
+-- a number's units, in range; it has at most 18 digits
 pub record IsUnits (unit : LengthUnit) (line : ℕ) (units : ℤ) (n : Num) : Type 0 where
+  pub fits : FitsNum 18 n
   pub value : axis_units unit line n ≡ Ok units
   pub within : Within (greatest_of unit) units
 
@@ -138,12 +140,14 @@ pub record Goes (unit : LengthUnit) (line : ℕ) (positioned : Bool) (w : Word) 
 abbrev pub HasDrive : Bool → Drive → Type 0
 HasDrive asked d = (if asked then d else full_drive) ≡ full_drive
 
--- a line that is only a move changes nothing that words for a machine have settled: there is no drilling cycle, lengths are millimetres, the place is known and was named under what is in force, and no tool has been selected since
+-- a line that is only a move changes nothing that words for a machine have settled: there is no drilling cycle and no arc, lengths are millimetres, the place is known, a whole number of units, and was named under what is in force, and no tool has been selected since
 pub record IsSettled (m : Machine) : Type 0 where
   pub inches : m.inches ≡ false
   pub cycle : m.cycle ≡ None
+  pub turn : m.turn ≡ None
   pub series : m.series ≡ None
   pub place : m.place ≡ record { across = true; height = KnownHeight }
+  pub finer : m.finer ≡ nothing_finer
   pub named : m.named ≡ record { height = Some m.offsets; across = Some m.offsets.zero }
   pub has_named : m.has_named ≡ true
   pub late : m.late ≡ false

@@ -15,7 +15,7 @@ use Rattle.mill_job.specs.declared.groups.Extras.{Extras}
 use Rattle.mill_job.specs.declared.fault.JobFault.{JobFault}
 use Rattle.mill_job.specs.declared.fields.JobFields.{JobFields}
 use Rattle.mill_job.specs.declared.key.Key.TheVariants as key
-use Rattle.mill_job.specs.declared.limits.TheConstants.{MAX_DISTANCE, MAX_GRAZE, MAX_OVERCUT, MAX_SLACK}
+use Rattle.mill_job.specs.declared.limits.TheConstants.{MAX_ARC_TOL, MAX_DISTANCE, MAX_GRAZE, MAX_OVERCUT, MAX_SLACK}
 use Rattle.mill_job.specs.declared.groups.Measure.{Measure}
 use Rattle.mill_job.specs.declared.groups.Paths.{Paths}
 use Rattle.mill_job.specs.declared.groups.Space.{Space}
@@ -103,6 +103,7 @@ extras_faults unit ms =
     ∷ text_fault_if_there key.Words words_texts ms
     ∷ number_fault_if_there key.PeckClearance (pos 0) MAX_DISTANCE ms
     ∷ text_fault_if_there key.Lengths lengths_texts ms
+    ∷ number_fault_if_there key.ArcTol (pos 1) MAX_ARC_TOL ms
     ∷ []
 
 abbrev pub extras_of : Members → Extras
@@ -121,6 +122,7 @@ extras_of ms = record {
   words = words_of ms;
   peck_clearance = number_given key.PeckClearance ms;
   lengths = lengths_of ms;
+  arc_tol = number_given key.ArcTol ms;
 }
 
 -- the job of what all of them say
@@ -157,4 +159,5 @@ job_of_groups unit cutter space measure paths extras = record {
   words = extras.words;
   peck_clearance = extras.peck_clearance;
   lengths = extras.lengths;
+  arc_tol = extras.arc_tol;
 }

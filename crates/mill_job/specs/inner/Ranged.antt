@@ -12,7 +12,7 @@ use Rattle.mill_job.specs.declared.cutter.Outline.{Outline}
 use Rattle.mill_job.specs.declared.cutter.Shape.TheVariants as shape
 use Rattle.mill_job.specs.declared.groups.Extras.{Extras}
 use Rattle.mill_job.specs.declared.fields.JobFields.{JobFields}
-use Rattle.mill_job.specs.declared.limits.TheConstants.{MAX_DISTANCE, MAX_GRAZE, MAX_LEVELS, MAX_OVERCUT, MAX_SLACK}
+use Rattle.mill_job.specs.declared.limits.TheConstants.{MAX_ARC_TOL, MAX_DISTANCE, MAX_GRAZE, MAX_LEVELS, MAX_OVERCUT, MAX_SLACK}
 use Rattle.mill_job.specs.declared.groups.Measure.{Measure}
 use Rattle.mill_job.specs.declared.groups.Paths.{Paths}
 use Rattle.mill_job.specs.declared.groups.Space.{Space}
@@ -29,6 +29,7 @@ pub record IsRanged (job : JobFields) : Type 0 where
   pub layer_ok : IsFrom (pos 0) (pos (greatest_of job.unit)) job.layer
   pub slack_ok : IsFrom (pos 0) MAX_SLACK job.slack
   pub graze_ok : IfSome job.graze (IsFrom (pos 0) MAX_GRAZE)
+  pub arc_tol_ok : IfSome job.arc_tol (IsFrom (pos 1) MAX_ARC_TOL)
 
 -- at most 64 heights, each under all before it
 pub record AreInOrder (heights : List ℤ) : Type 0 where
@@ -74,4 +75,5 @@ pub record AreExtras (unit : Unit) (extras : Extras) : Type 0 where
   pub overcut_ok : IsFrom (pos 0) MAX_OVERCUT extras.overcut
   pub graze_ok : IfSome extras.graze (IsFrom (pos 0) MAX_GRAZE)
   pub peck_clearance_ok : IfSome extras.peck_clearance (IsFrom (pos 0) MAX_DISTANCE)
+  pub arc_tol_ok : IfSome extras.arc_tol (IsFrom (pos 1) MAX_ARC_TOL)
   pub keep_out_ok : AreFixtures unit extras.keep_out

@@ -1,5 +1,5 @@
 -- A job's relations, in three parts: what is wrong, and what holds where nothing is.
-use Rattle.std.specs.Prelude.{◌≡◌, false, ◌*◌, ◌≤◌, nat_lt, not, All, ◌<ℤ◌, ◌≤ℤ◌, int_lt, List, [], ◌∷◌, ◌++◌, Option, IfSome}
+use Rattle.std.specs.Prelude.{◌≡◌, false, ◌*◌, ◌≤◌, nat_lt, not, All, ◌<ℤ◌, ◌≤ℤ◌, ◌+ℤ◌, int_lt, List, [], ◌∷◌, ◌++◌, Option, IfSome}
 use Rattle.std.specs.List.{list_all}
 use Rattle.mill_base.specs.Sizes.{radius_of}
 use Rattle.mill_base.specs.declared.limits.TheConstants.{MAX_COLUMNS}
@@ -8,9 +8,10 @@ use Rattle.mill_job.specs.Documents.{are_under, has_many_layers, is_level, slack
 use Rattle.mill_job.specs.Habits.{starts_at_home}
 use Rattle.mill_job.specs.Holders.{is_narrow}
 use Rattle.mill_job.specs.Jobs.{HasFewLayers, HasRoom, HolderHasRoom, IsLevel}
-use Rattle.mill_job.specs.Slack.{is_holder_close, is_low}
+use Rattle.mill_job.specs.Slack.{are_arcs_tight, is_holder_close, is_low}
 use Rattle.mill_job.specs.Tables.{fault_if}
 use Rattle.mill_job.specs.declared.fields.JobFields.{JobFields}
+use Rattle.mill_job.specs.declared.limits.TheConstants.{SPARE_ARC}
 use Rattle.mill_job.specs.declared.key.Key.TheVariants as key
 use Rattle.mill_job.specs.declared.fault.JobFault.{JobFault}
 use Rattle.mill_job.specs.declared.fault.JobFault.TheVariants.{Relation}
@@ -43,7 +44,7 @@ pub record IsCut (job : JobFields) : Type 0 where
   pub levels : All (IsLevel job.floor job.top) job.levels
   pub wider : IfSome job.holder (λ holder. radius_of job.cutter <ℤ radius_of holder.cutter)
 
--- between how far the machine may be from the program, and how deep a cutter may pass, and the cutter, the holder, the stock or the fixtures; and between which words programs have and from where they start
+-- between how far the machine may be from the program, and how deep a cutter may pass, and the cutter, the holder, the stock, the fixtures or the tolerance of arcs; and between which words programs have and from where they start
 abbrev pub room_faults : JobFields → List (Option JobFault)
 room_faults job =
     slack_faults job job.cutter
@@ -51,12 +52,14 @@ room_faults job =
     ∷ fault_if (is_low job job.cutter) (Relation key.Slack key.Clear)
     ∷ fault_if (not (are_under job job.cutter)) (Relation key.KeepOut key.Clear)
     ∷ fault_if (starts_at_home job) (Relation key.Words key.Start)
+    ∷ fault_if (are_arcs_tight job.slack job.arc_tol) (Relation key.ArcTol key.Slack)
     ∷ []
 
 pub record IsSlackened (job : JobFields) : Type 0 where
   pub room : HasRoom job job.cutter
   pub holder_room : HolderHasRoom job
   pub away : starts_at_home job ≡ false
+  pub arc_room : IfSome job.arc_tol (λ tolerance. (tolerance +ℤ SPARE_ARC) ≤ℤ job.slack)
 
 -- all of them hold
 pub record IsRelated (job : JobFields) : Type 0 where

@@ -14,6 +14,8 @@ use std::test::Fail;
 const TABLE: Control = Control {
     rounds: true,
     path_tolerance: 5,
+    arc_tolerance: 2,
+    arc_room: 4,
     peck_clearance: 25,
     one_length: false,
     change_raises: false,
@@ -23,6 +25,8 @@ const TABLE: Control = Control {
 const EXACT: Control = Control {
     rounds: false,
     path_tolerance: 0,
+    arc_tolerance: 1,
+    arc_room: -3,
     peck_clearance: 10,
     one_length: true,
     change_raises: true,
@@ -59,10 +63,15 @@ fn add_move(alloc: Global, line: &mut String, made: &Move) -> Result<(), Fail> {
 
 // What a text comes to: all of its moves, or its fault.
 fn told(alloc: Global, control: Control, text: &str) -> Result<String, Fail> {
+    told_from(alloc, control, text, 0)
+}
+
+// What it comes to, but for so many moves at its beginning.
+fn told_from(alloc: Global, control: Control, text: &str, first: usize) -> Result<String, Fail> {
     match moves_for(alloc, control, text) {
         Ok(moves) => {
             let mut line = String::new(alloc);
-            for made in moves.as_slice() {
+            for made in moves.as_slice().iter().skip(first) {
                 add_move(alloc, &mut line, made)?;
             }
             Ok(line)
@@ -134,6 +143,7 @@ G21 G90\nG0 Z4\nX1 Y1\nG53 X0 Y0\nX2 Y2\nG1 Z3\nM2 => G0 100 100 400, G0 100 100
 G21 G90\nG0 Z4\nX1 Y1\nG1 Z2\nG0 G53 X0\nM2 => Start { line: 5 }
 G21 G90\nG0 Z4\nX1 Y1\nG1 Z2\nG0 G53 Z0\nX5 Y5\nZ2\nM2 => G0 100 100 400, G0 100 100 400, G1 100 100 200, G0 100 100 400, G0 500 500 400, G0 500 500 200
 G21 G90\nG0 G1 Z4\nM2 => Group { line: 2, group: 1 }
+G21 G90\nG0 Z4\nG2 X1 Y1 I0.04\nM2 => Start { line: 3 }
 G21 G90\nG0 Z4\nM0\nM1 X1 Y1\nM2 => G0 100 100 400, G0 100 100 400";
 
 #[test]
@@ -178,13 +188,62 @@ fn drills_holes(rt: HostRuntime) -> Result<(), Fail> {
     each_tells(&rt, rt.alloc(), TABLE, HOLES)
 }
 
+// They go on behind this way to X1 Y1 at Z4, and their moves are those behind it.
+const WAY: &str = "G21 G90\nG0 Z4\nX1 Y1\n";
+
+const ARCS: &str =
+    r"G3 X1 Y1 I0.04\nM2 => G1 104 96 400, G1 108 100 400, G1 104 104 400, G1 100 100 400
+G2 X1.08 I0.04\nM2 => G1 104 104 400, G1 108 100 400
+G3 X1.08 I0.04\nX1 I-0.04\nM2 => G1 104 96 400, G1 108 100 400, G1 104 104 400, G1 100 100 400
+G2\nI0.04\nM2 => G1 104 104 400, G1 108 100 400, G1 104 96 400, G1 100 100 400
+G18\nG3 I0.04\nM2 => G1 104 100 404, G1 108 100 400, G1 104 100 396, G1 100 100 400
+G18\nG3 K0.04\nM2 => G1 96 100 404, G1 100 100 408, G1 104 100 404, G1 100 100 400
+G19\nG2 K-0.04 Z3.92\nM2 => G1 100 104 396, G1 100 100 392
+G2 I0.04 Z3.9\nM2 => G1 104 104 398, G1 108 100 395, G1 104 96 393, G1 100 100 390
+G2 X1.08\nM2 => Arc { line: 4 }
+G2 X1.08 R0.04\nM2 => Arc { line: 4 }
+G2 X1.08 I0.04 K0\nM2 => G1 104 104 400, G1 108 100 400
+G2 X1.08 I0.04 K0.00001\nM2 => Arc { line: 4 }
+G2 X1.08 I0.0400001\nM2 => Arc { line: 4 }
+G2 X1.0800001 I0.04\nM2 => Arc { line: 4 }
+G2 X1.08 I0.055\nM2 => Arc { line: 4 }
+G2 X1.08 I0.045\nM2 => G1 102 103 400, G1 105 104 400, G1 108 100 400
+G2 X1.001 I0.0005\nM2 => Arc { line: 4 }
+G2 X1.0003 I0.04\nM2 => Arc { line: 4 }
+G2 X1.08 I2000\nM2 => Arc { line: 4 }
+G2 X1.08 I1310\nM2 => Arc { line: 4 }
+G2 X1.08 I0.04 J0\nM2 => G1 104 104 400, G1 108 100 400
+G64 P0.05\nG2 X1.08 I0.04\nM2 => PathControl { line: 5 }
+G64 P0.05\nG61\nG2 X1 I-0.04\nM2 => G1 96 96 400, G1 92 100 400, G1 96 104 400, G1 100 100 400
+G1 I1\nM2 => line 4: not I Num { mant: 1, scale: 0, neg: false }
+G2 G28 X0\nM2 => line 4: not G Num { mant: 28, scale: 0, neg: false }
+G91 G2 I1 G28 Z0\nM2 => line 4: not G Num { mant: 28, scale: 0, neg: false }
+G91 G2 G28 Z0\nM2 => G0 100 100 400
+G2 G80 X2 I1\nM2 => Group { line: 4, group: 1 }
+G18\nG81 G99 X2 Y1 R3 Z1\nM2 => Cycle { line: 5 }
+X1.004\nG2 X1.08 I0.036\nM2 => G0 100 100 400, G1 104 104 400, G1 107 103 400, G1 108 100 400
+G2 P1 X1.08 I0.04\nM2 => line 4: not P Num { mant: 1, scale: 0, neg: false }";
+
+#[test]
+fn goes_round_arcs(rt: HostRuntime) -> Result<(), Fail> {
+    let alloc = rt.alloc();
+    for row in ARCS.lines() {
+        let (behind, wanted) = halves(row)?;
+        let behind = with_bytes(alloc, behind)?;
+        let text = format!(in alloc; "{WAY}{behind}")?;
+        same(&rt, &told_from(alloc, TABLE, &text, 2)?, wanted, row);
+    }
+    Ok(())
+}
+
 const ONE_LENGTH: &str =
     r"G21 G90\nG0 Z4\nX1 Y1\nG43 H2\nX2\nM2 => G0 100 100 400, G0 100 100 400, G0 200 100 400
 G21 G90\nG0 Z4\nX1 Y1.005\nM2 => OffGrid { line: 3 }
 G21 G90\nT1 M6\nG0 X1 Y1\nZ4\nG1 Z2\nM2 => G0 100 100 400, G0 100 100 400, G1 100 100 200
 G21 G90\nG64 P0.01\nM2 => PathControl { line: 2 }
 G21 G90\nG0 Z4\nX1 Y1\nG83 G99 X2 R3 Z1 Q0.75\nG80\nM2 => G0 100 100 400, G0 100 100 400, G0 200 100 400, G0 200 100 300, G1 200 100 225, G0 200 100 300, G0 200 100 235, G1 200 100 150, G0 200 100 300, G0 200 100 160, G1 200 100 100, G0 200 100 300
-G21 G90\nG0 Z4\nX1 Y1\nG83 G99 X2 R3 Z1 Q0.755\nM2 => OffGrid { line: 4 }";
+G21 G90\nG0 Z4\nX1 Y1\nG83 G99 X2 R3 Z1 Q0.755\nM2 => OffGrid { line: 4 }
+G21 G90\nG0 Z4\nX1 Y1\nG2 X1.08 I0.04\nM2 => Arc { line: 4 }";
 
 #[test]
 fn goes_by_the_control(rt: HostRuntime) -> Result<(), Fail> {

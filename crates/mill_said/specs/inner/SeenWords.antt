@@ -6,7 +6,7 @@ use Rattle.mill_control.specs.declared.lengths.LengthUnit.TheVariants.{Millimetr
 use Rattle.mill_control.specs.declared.series.Cycle.{Cycle}
 use Rattle.mill_said.specs.declared.machine_table.Meaning.{Meaning}
 use Rattle.mill_said.specs.declared.machine_takes.Seen.{Seen}
-use Rattle.mill_said.specs.MachineTakes.{dwells_by, has_word, is_drill, is_dwell, is_inches, is_length, is_millimetres, is_motion, is_rest, is_tolerance}
+use Rattle.mill_said.specs.MachineTakes.{dwells_by, has_word, is_drill, is_dwell, is_inches, is_length, is_millimetres, is_motion, is_rest, is_tolerance, is_turn}
 
 -- with a word of this meaning
 abbrev pub seen_with : Seen → Meaning → Seen
@@ -18,6 +18,7 @@ seen_with s m = record {
   moves = is_motion m || s.moves;
   drills = is_drill m || s.drills;
   dwells = is_dwell m || s.dwells;
+  turns = is_turn m || s.turns;
   inches = is_inches m || s.inches;
   millimetres = is_millimetres m || s.millimetres;
 }
@@ -32,6 +33,7 @@ seen_in words = record {
   moves = has_word is_motion words;
   drills = has_word is_drill words;
   dwells = has_word is_dwell words;
+  turns = has_word is_turn words;
   inches = has_word is_inches words;
   millimetres = has_word is_millimetres words;
 }

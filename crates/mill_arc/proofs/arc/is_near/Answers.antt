@@ -2,7 +2,7 @@ use Rattle.std.proofs.Common.{◌≡◌, Bool, true, false, ◌&&◌, refl, w64,
 use Rattle.std.specs.Prelude.{ℤ, pos, ◌*ℤ◌, ◌-ℤ◌, ◌≤ℤ◌, int_le}
 use Rattle.std.proofs.lemmas.Int.{ints}
 use Rattle.mill_base.specs.Numbers.{Within}
-use Rattle.mill_arc.proofs.Tests.{true_le}
+use Rattle.mill_arc.proofs.Decided.{true_le}
 use Rattle.mill_arc.proofs.arc.is_near.Goals as goal
 
 twice : (l : ℤ) → Within 2147483648 l → to_z w64 (of_z w64 (pos 2 *ℤ to_z w64 (of_z w64 l))) ≡ pos 2 *ℤ l

@@ -13,4 +13,5 @@ returns-clause-none c = λ none. record {
   room = has_room c.args.job.now c.args.job.now.cutter (c.in_default.ensures.none refl) (c.if-has_low_clear.ensures.no refl) (c.if-not-clears_fixtures.ensures.yes refl);
   holder_room = c.if-has_close_holder.ensures.no refl;
   away = sym c.starts_at_home.ensures ∙ c.if-starts_at_home.false;
+  arc_room = c.if-has_tight_arcs.ensures.no refl;
 }
